@@ -1,0 +1,59 @@
+-- What a loop that fills a list by a rule keeps.
+-- Assumes nothing.
+use mathlib.Core.Path.{_≡_, refl, sym, ap, _∙_}
+use mathlib.Core.List.{List}
+use Prim.Native.Nat.{ℕ, zero, suc, _+_, _<_, _≤_}
+use native.Mathlib.Omega.{arith}
+use lib.ListN.{length, getD, set, length-set}
+use Rattle.bits.specs.Tab.{tab, over, overAt}
+use Rattle.bits.proofs.Tabs.{over-none, over-more, over-all, getD-over-rest, overAt-none, overAt-more, length-over, over-on}
+
+-- l is d with its first n cells by the rule f
+pub record Filled {A : Type 0} (f : ℕ → A) (d : List A) (n : ℕ) (l : List A) : Type 0 where
+  pub is : l ≡ over n f d
+  pub long : length l ≡ length d
+  pub within : n ≤ length d
+
+-- l is d with n cells from the place at on by the rule f
+pub record FilledAt {A : Type 0} (f : ℕ → A) (d : List A) (at n : ℕ) (l : List A) : Type 0 where
+  pub is : l ≡ overAt at n f d
+  pub long : length l ≡ length d
+  pub within : at + n ≤ length d
+
+module _ {A : Type 0} where
+  pub filled-none : (f : ℕ → A) (d : List A) → Filled f d 0 d
+  filled-none f d = record { is = over-none f d; long = refl; within = omega arith }
+
+  pub filled-more : {f : ℕ → A} {d : List A} {n : ℕ} {l : List A} {x : A} → Filled f d n l → n < length d → x ≡ f n → Filled f d (n + 1) (set l n x)
+  filled-more {f} {d} {n} {l} {x} p h q =
+      record { is = rw (p .is, q) (over-more n f d h); long = length-set l n x ∙ p .long; within = omega arith }
+
+  -- what is not yet filled is as it was
+  pub filled-rest : {f : ℕ → A} {d : List A} {n : ℕ} {l : List A} (z : A) → Filled f d n l → getD l n z ≡ getD d n z
+  filled-rest {f} {d} {n} {l} z p = rw (p .is) (getD-over-rest n f d n z (omega arith))
+
+  pub filled-end : {f : ℕ → A} {d : List A} {m n : ℕ} {l : List A} → Filled f d m l → m ≡ n → l ≡ over n f d
+  filled-end {f} {d} p e = rw e at (p .is)
+
+  pub filled-all : {f : ℕ → A} {d : List A} {n : ℕ} {l : List A} → Filled f d n l → length d ≤ n → l ≡ tab (length d) f
+  filled-all {f} {d} {n} {l} p h =
+      let e : n ≡ length d = omega arith in
+      filled-end p e ∙ over-all (length d) f d (omega arith)
+
+  -- a piece of m cells more
+  pub filled-on : {f g : ℕ → A} {d : List A} {n m : ℕ} {l k : List A} → Filled f d n l → n + m ≤ length d → k ≡ overAt n m g l
+      → ((i : ℕ) → i < m → g i ≡ f (n + i)) → Filled f d (n + m) k
+  filled-on {f} {g} {d} {n} {m} {l} {k} p h q e =
+      let is : k ≡ over (n + m) f d = q ∙ ap (λ (x : List A). overAt n m g x) (p .is) ∙ over-on n m f g d h e in
+      record { is = is; long = ap length is ∙ length-over (n + m) f d h; within = h }
+
+  pub filledAt-none : (f : ℕ → A) (d : List A) (at : ℕ) → at ≤ length d → FilledAt f d at 0 d
+  filledAt-none f d at h = record { is = overAt-none at f d; long = refl; within = omega arith }
+
+  pub filledAt-more : {f : ℕ → A} {d : List A} {at n : ℕ} {l : List A} {x : A} → FilledAt f d at n l → at + n < length d → x ≡ f n
+      → FilledAt f d at (n + 1) (set l (at + n) x)
+  filledAt-more {f} {d} {at} {n} {l} {x} p h q =
+      record { is = rw (p .is, q) (overAt-more at n f d h); long = length-set l (at + n) x ∙ p .long; within = omega arith }
+
+  pub filledAt-end : {f : ℕ → A} {d : List A} {at m n : ℕ} {l : List A} → FilledAt f d at m l → m ≡ n → l ≡ overAt at n f d
+  filledAt-end {f} {d} p e = rw e at (p .is)

@@ -1,0 +1,5 @@
+pub mod Every
+pub mod Bits
+pub mod Tabs
+pub mod Fill
+pub mod Searches

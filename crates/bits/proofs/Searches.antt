@@ -1,0 +1,144 @@
+-- Laws of searches and counts.
+-- Assumes nothing.
+use mathlib.Core.Path.{_≡_, refl, sym, ap, ap₂, _∙_}
+use mathlib.Core.Bool.{Bool, true, false, not}
+use mathlib.Core.Logic.{_⊎_, inl, inr, ⊎-elim}
+use Prim.Native.Nat.{ℕ, zero, suc, _+_, _-_, _<_, _≤_}
+use native.Mathlib.Nat.{add-zero, sub-zero}
+use native.Mathlib.Numerals.{add-one}
+use native.Mathlib.Omega.{arith}
+use native.Mathlib.Decide.{ℕ-discrete}
+use Rattle.bits.specs.Bit.{asBit}
+use Rattle.bits.specs.Pick.{pick}
+use Rattle.bits.specs.Search.{first, howMany}
+
+module _ (p : ℕ → Bool) where
+  -- a search that stands at i and ends at e: it goes on, it ends here, it has come to its end
+  pub first-more : (e i : ℕ) → i < e → p i ≡ false → first p (e - i) i ≡ first p (e - (i + 1)) (i + 1)
+  unfolding first
+  first-more e i h b =
+      let s : e - i ≡ suc (e - (i + 1)) = omega arith in
+      rw (s, b)
+
+  pub first-here : (e i : ℕ) → i < e → p i ≡ true → first p (e - i) i ≡ i
+  unfolding first
+  first-here e i h b =
+      let s : e - i ≡ suc (e - (i + 1)) = omega arith in
+      rw (s, b)
+
+  pub first-end : (e i : ℕ) → e ≤ i → first p (e - i) i ≡ i
+  unfolding first
+  first-end e i h =
+      let s : e - i ≡ 0 = omega arith in
+      rw s
+
+  step-le : (b : Bool) (n i r : ℕ) → i + 1 ≤ r → r ≤ i + 1 + n → (i ≤ pick b i r) × (pick b i r ≤ i + suc n)
+  step-le true n i r h l = omega arith
+  step-le false n i r h l = omega arith
+
+  pub first-range : (n i : ℕ) → (i ≤ first p n i) × (first p n i ≤ i + n)
+  unfolding first
+  first-range zero i = omega arith
+  first-range (suc n) i =
+      let (low, high) = first-range n (i + 1) in
+      step-le (p i) n i (first p n (i + 1)) low high
+
+  pub first-found : (n i : ℕ) → first p n i < i + n → p (first p n i) ≡ true
+  unfolding first
+  first-found zero i h = absurd (omega arith)
+  first-found (suc n) i h = go (p i) refl h (first-found n (i + 1))
+    where
+      go : (b : Bool) → p i ≡ b → pick b i (first p n (i + 1)) < i + suc n
+          → (first p n (i + 1) < i + 1 + n → p (first p n (i + 1)) ≡ true) → p (pick b i (first p n (i + 1))) ≡ true
+      go true e l later = e
+      go false e l later = later (omega arith)
+
+  pub first-before : (n i k : ℕ) → i ≤ k → k < first p n i → p k ≡ false
+  unfolding first
+  first-before zero i k h l = absurd (omega arith)
+  first-before (suc n) i k h l = go (p i) refl l (ℕ-discrete k i) (first-before n (i + 1) k)
+    where
+      go : (b : Bool) → p i ≡ b → k < pick b i (first p n (i + 1)) → Dec (k ≡ i) → (i + 1 ≤ k → k < first p n (i + 1) → p k ≡ false) → p k ≡ false
+      go true e m d later = absurd (omega arith)
+      go false e m (yes q) later = ap p q ∙ e
+      go false e m (no q) later = later (omega arith) m
+
+  -- the place of the first, known
+  pub first-is : (n i k : ℕ) → i ≤ k → k < i + n → p k ≡ true → ((m : ℕ) → i ≤ m → m < k → p m ≡ false) → first p n i ≡ k
+  unfolding first
+  first-is zero i k h l t f = absurd (omega arith)
+  first-is (suc n) i k h l t f = at (ℕ-discrete i k) (λ a. first-is n (i + 1) k a (omega arith) t (λ m b d. f m (omega arith) d))
+    where
+      at : Dec (i ≡ k) → (i + 1 ≤ k → first p n (i + 1) ≡ k) → pick (p i) i (first p n (i + 1)) ≡ k
+      at (yes q) later = rw (ap p q ∙ t) q
+      at (no q) later = rw (f i (omega arith) (omega arith)) (later (omega arith))
+
+  pub first-none : (n i : ℕ) → ((m : ℕ) → i ≤ m → m < i + n → p m ≡ false) → first p n i ≡ i + n
+  unfolding first
+  first-none zero i f = sym (add-zero i)
+  first-none (suc n) i f = rw (f i (omega arith) (omega arith)) (first-none n (i + 1) (λ m a b. f m (omega arith) (omega arith)) ∙ omega arith)
+
+  -- a search over m and then n places, of which the first m hold nothing
+  pub first-skip : (m n i : ℕ) → ((k : ℕ) → i ≤ k → k < i + m → p k ≡ false) → first p (m + n) i ≡ first p n (i + m)
+  unfolding first
+  first-skip zero n i f =
+      let z : 0 + n ≡ n = omega arith in
+      let y : i + 0 ≡ i = omega arith in
+      rw (z, y)
+  first-skip (suc m) n i f =
+      let z : suc m + n ≡ suc (m + n) = omega arith in
+      let y : i + suc m ≡ i + 1 + m = omega arith in
+      rw (z, y, f i (omega arith) (omega arith)) (first-skip m n (i + 1) (λ k a b. f k (omega arith) (omega arith)))
+
+pub first-cong : (p q : ℕ → Bool) (n i : ℕ) → ((k : ℕ) → i ≤ k → k < i + n → p k ≡ q k) → first p n i ≡ first q n i
+unfolding first
+first-cong p q zero i e = refl
+first-cong p q (suc n) i e = rw (e i (omega arith) (omega arith), first-cong p q n (i + 1) (λ k a b. e k (omega arith) (omega arith)))
+
+pub asBit-le : (b : Bool) → asBit b ≤ 1
+asBit-le true = omega arith
+asBit-le false = omega arith
+
+module _ (p : ℕ → Bool) where
+  pub howMany-more : {a x : ℕ} (n : ℕ) → a ≡ howMany p n → x ≡ asBit (p n) → a + x ≡ howMany p (n + 1)
+  unfolding howMany
+  howMany-more n e q = rw (e, q, add-one)
+
+  pub howMany-le : (n : ℕ) → howMany p n ≤ n
+  unfolding howMany
+  howMany-le zero = omega arith
+  howMany-le (suc n) = omega (arith, howMany-le n, asBit-le (p n))
+
+  pub howMany-none : (n : ℕ) → ((k : ℕ) → k < n → p k ≡ false) → howMany p n ≡ 0
+  unfolding howMany
+  howMany-none zero f = refl
+  howMany-none (suc n) f = rw (howMany-none n (λ k h. f k (omega arith)), f n (omega arith))
+
+  -- where the count is 0 the test holds nowhere
+  pub howMany-zero : (n : ℕ) → howMany p n ≡ 0 → (k : ℕ) → k < n → p k ≡ false
+  unfolding howMany
+  howMany-zero zero e k h = absurd (omega arith)
+  howMany-zero (suc n) e k h = at (ℕ-discrete k n) (howMany-zero n (omega arith) k)
+    where
+      unset : (b : Bool) → asBit b ≡ 0 → b ≡ false
+      unset true z = absurd (omega arith)
+      unset false z = refl
+
+      at : Dec (k ≡ n) → (k < n → p k ≡ false) → p k ≡ false
+      at (yes q) below = ap p q ∙ unset (p n) (omega arith)
+      at (no q) below = below (omega arith)
+
+pub howMany-cong : (p q : ℕ → Bool) (n : ℕ) → ((k : ℕ) → k < n → p k ≡ q k) → howMany p n ≡ howMany q n
+unfolding howMany
+howMany-cong p q zero e = refl
+howMany-cong p q (suc n) e = rw (howMany-cong p q n (λ k h. e k (omega arith)), e n (omega arith))
+
+-- where p holds q does
+pub howMany-mono : (p q : ℕ → Bool) (n : ℕ) → ((k : ℕ) → k < n → p k ≡ true → q k ≡ true) → howMany p n ≤ howMany q n
+unfolding howMany
+howMany-mono p q zero e = omega arith
+howMany-mono p q (suc n) e = omega (arith, howMany-mono p q n (λ k h. e k (omega arith)), one (p n) (q n) (e n (omega arith)))
+  where
+    one : (a b : Bool) → (a ≡ true → b ≡ true) → asBit a ≤ asBit b
+    one true b h = rw (h refl) (omega arith)
+    one false b h = omega arith

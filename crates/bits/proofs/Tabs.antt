@@ -1,0 +1,102 @@
+-- Laws of lists by a rule.
+-- Assumes nothing.
+use mathlib.Core.Path.{_≡_, refl, sym, ap, _∙_}
+use mathlib.Core.List.{List, [], _∷_, _++_, append-assoc, append-nil}
+use mathlib.Core.Logic.{⊎-elim}
+use Prim.Native.Nat.{ℕ, zero, suc, _+_, _-_, _<_, _≤_}
+use native.Mathlib.Nat.{add-zero, zero-add, add-suc, not-suc-le-zero, eq-or-lt-of-le, le-of-suc-le-suc}
+use native.Mathlib.Numerals.{add-one}
+use native.Mathlib.Omega.{arith}
+use lib.ListN.{length-set, length, getD, take, drop, set, length-append, length-take, length-drop, drop-of-length-le, take-append-drop, length-replicate, getD-replicate, List·getD-append}
+use lib.Seq.{getD-append-add, getD-drop, drop-cons, set-at, getD-at, length-take-le, ext-getD, drop-at, take-at, take-append-le, drop-append-le}
+use Rattle.bits.specs.Tab.{tab, over, overAt, blank}
+
+module _ {A : Type 0} where
+  pub length-blank : (n : ℕ) (a : A) → length (blank n a) ≡ n
+  unfolding blank
+  length-blank n a = length-replicate n a
+
+  pub getD-blank : (n i : ℕ) (a d : A) → i < n → getD (blank n a) i d ≡ a
+  unfolding blank
+  getD-blank n i a d h = getD-replicate n i a d h
+
+  pub length-tab : (n : ℕ) (f : ℕ → A) → length (tab n f) ≡ n
+  unfolding tab
+  length-tab zero f = refl
+  length-tab (suc n) f = simp (length-append, length-tab n f, add-one)
+
+  pub over-none : (f : ℕ → A) (d : List A) → d ≡ over 0 f d
+  unfolding tab
+  over-none f d = refl
+
+  pub over-more : (n : ℕ) (f : ℕ → A) (d : List A) → n < length d → set (over n f d) n (f n) ≡ over (n + 1) f d
+  unfolding tab
+  over-more n f d h =
+      rw (add-one, drop-cons d n (f n))
+      (set-at (tab n f) _ (drop (suc n) d) (f n) n (length-tab n f) ∙ sym (append-assoc (tab n f) (f n ∷ []) (drop (suc n) d)))
+
+  pub length-over : (n : ℕ) (f : ℕ → A) (d : List A) → n ≤ length d → length (over n f d) ≡ length d
+  length-over n f d h = simp (length-append, length-tab, length-drop) (omega arith)
+
+  pub over-all : (n : ℕ) (f : ℕ → A) (d : List A) → length d ≤ n → over n f d ≡ tab n f
+  over-all n f d h = rw (drop-of-length-le d h) (append-nil (tab n f))
+
+  pub getD-tab : (n : ℕ) (f : ℕ → A) (i : ℕ) (z : A) → i < n → getD (tab n f) i z ≡ f i
+  unfolding tab
+  getD-tab zero f i z h = absurd (not-suc-le-zero h)
+  getD-tab (suc n) f i z h =
+      ⊎-elim (λ e. rw e (getD-at (tab n f) (f n) [] z n (length-tab n f)))
+      (λ l. List·getD-append (tab n f) (f n ∷ []) z i (rw length-tab l) ∙ getD-tab n f i z l)
+      (eq-or-lt-of-le (le-of-suc-le-suc h))
+
+  pub getD-over : (n : ℕ) (f : ℕ → A) (d : List A) (i : ℕ) (z : A) → i < n → getD (over n f d) i z ≡ f i
+  getD-over n f d i z h = List·getD-append (tab n f) (drop n d) z i (rw length-tab h) ∙ getD-tab n f i z h
+
+  pub getD-over-rest : (n : ℕ) (f : ℕ → A) (d : List A) (i : ℕ) (z : A) → n ≤ i → getD (over n f d) i z ≡ getD d i z
+  getD-over-rest n f d i z h =
+      let e : length (tab n f) + (i - n) ≡ i = rw length-tab (omega arith) in
+      let k : n + (i - n) ≡ i = omega arith in
+      (rw e at (getD-append-add (tab n f) (drop n d) (i - n) z)) ∙ getD-drop n d (i - n) z ∙ ap (λ (m : ℕ). getD d m z) k
+
+  -- two rules that agree make the same list
+  pub tab-cong : (n : ℕ) (f g : ℕ → A) → ((i : ℕ) → i < n → f i ≡ g i) → tab n f ≡ tab n g
+  unfolding tab
+  tab-cong zero f g h = refl
+  tab-cong (suc n) f g h = rw (tab-cong n f g (λ i l. h i (omega arith)), h n (omega arith))
+
+  pub over-cong : (n : ℕ) (f g : ℕ → A) (d : List A) → ((i : ℕ) → i < n → f i ≡ g i) → over n f d ≡ over n g d
+  over-cong n f g d h = ap (λ (l : List A). l ++ drop n d) (tab-cong n f g h)
+
+  -- a list is its own rule
+  pub tab-getD : (l : List A) (z : A) → tab (length l) (λ i. getD l i z) ≡ l
+  tab-getD l z = ext-getD z _ _ (length-tab _ _) (λ i h. getD-tab _ _ i z (rw length-tab at h))
+
+  -- n and then m by the rule
+  pub tab-add : (n m : ℕ) (f : ℕ → A) → tab (n + m) f ≡ tab n f ++ tab m (λ i. f (n + i))
+  unfolding tab
+  tab-add n zero f = rw add-zero (sym (append-nil (tab n f)))
+  tab-add n (suc m) f = rw (add-suc, tab-add n m f) (append-assoc (tab n f) (tab m (λ i. f (n + i))) (f (n + m) ∷ []))
+
+  pub overAt-none : (at : ℕ) (f : ℕ → A) (d : List A) → d ≡ overAt at 0 f d
+  unfolding tab
+  overAt-none at f d = rw add-zero (sym (take-append-drop at d))
+
+  pub overAt-more : (at n : ℕ) (f : ℕ → A) (d : List A) → at + n < length d → set (overAt at n f d) (at + n) (f n) ≡ overAt at (n + 1) f d
+  unfolding tab
+  overAt-more at n f d h =
+      let long : length (take at d ++ tab n f) ≡ at + n = simp (length-append, length-take-le at d (omega arith), length-tab) in
+      let next : at + (n + 1) ≡ suc (at + n) = omega arith in
+      rw (next, add-one, drop-cons d (at + n) (f n), ← append-assoc)
+      (set-at (take at d ++ tab n f) _ (drop (suc (at + n)) d) (f n) (at + n) long ∙ simp append-assoc)
+
+  -- a list filled to n, filled on from there
+  pub over-on : (n m : ℕ) (f g : ℕ → A) (d : List A) → n + m ≤ length d → ((i : ℕ) → i < m → g i ≡ f (n + i)) → overAt n m g (over n f d) ≡ over (n + m) f d
+  over-on n m f g d h e =
+      rw (take-at (tab n f) (drop n d) n (length-tab n f), ext-drop, tab-cong m g _ e, tab-add n m f)
+      (sym (append-assoc (tab n f) (tab m (λ i. f (n + i))) (drop (n + m) d)))
+    where
+      ext-drop : drop (n + m) (over n f d) ≡ drop (n + m) d
+      ext-drop =
+          let one = f 0 in
+          ext-getD one _ _ (simp (length-drop, length-append, length-tab) (omega arith))
+          (λ i l. getD-drop (n + m) (over n f d) i one ∙ getD-over-rest n f d (n + m + i) one (omega arith) ∙ sym (getD-drop (n + m) d i one))

@@ -1,0 +1,4 @@
+pub mod Bit
+pub mod Pick
+pub mod Search
+pub mod Tab
