@@ -1,0 +1,27 @@
+-- Document 01, "Blocks, the diagonal and the Gray step": a block's codewords as its symbols, and back.
+-- A block has n rows, one for each codeword.
+-- Assumes nothing.
+use mathlib.Core.Bool.{Bool}
+use Prim.Native.Nat.{ℕ, _+_, _-_, _*_, _%_}
+use Rattle.bits.specs.Bit.{bit, number}
+use Rattle.block.specs.Gray.{valueOfWord, wordOfValue, numberOfValue, valueOfNumber}
+
+-- symbol word j of the codewords c: its bit k is bit j of codeword (j + k) mod n
+unfoldable pub wordOfCodewords : ℕ → (ℕ → ℕ) → ℕ → ℕ
+wordOfCodewords n c j = number n (λ k. bit j (c ((j + k) % n)))
+
+-- symbol j of the codewords c
+unfoldable pub symbolOfCodewords : ℕ → Bool → (ℕ → ℕ) → ℕ → ℕ
+symbolOfCodewords n wide c j = numberOfValue wide (valueOfWord n (wordOfCodewords n c j))
+
+-- which bit of symbol word j is bit j of codeword i: the k with (j + k) mod n = i
+unfoldable pub placeInWord : ℕ → ℕ → ℕ → ℕ
+placeInWord n i j = (i + n - j % n) % n
+
+-- the symbol word that a number is read as
+unfoldable pub wordOfNumber : Bool → ℕ → ℕ
+wordOfNumber wide s = wordOfValue (valueOfNumber wide s)
+
+-- codeword i, of so many bits, as it is received in the symbols s: its bit j comes from symbol j alone
+unfoldable pub received : ℕ → ℕ → Bool → (ℕ → ℕ) → ℕ → ℕ
+received n columns wide s i = number columns (λ j. bit (placeInWord n i j) (wordOfNumber wide (s j)))
