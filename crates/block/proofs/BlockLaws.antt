@@ -1,0 +1,146 @@
+-- A block read back: each bit of each codeword comes from one symbol, and comes back if that symbol does.
+-- Assumes nothing.
+use mathlib.Core.Path.{_≡_, refl, sym, ap, _∙_}
+use mathlib.Core.Bool.{Bool, true, false, not}
+use mathlib.Core.List.{List, []}
+use Prim.Native.Nat.{ℕ, zero, suc, _+_, _-_, _%_, _^_, _≤_, _<_}
+use native.Mathlib.Nat.{mod-lt}
+use native.Mathlib.Omega.{arith}
+use lib.Dec.{eqb}
+use lib.ListN.{getD}
+use borrow.Author.Tests.{eqb-true, eq-eqb}
+use Rattle.bits.specs.Bit.{bit, number, isSet, asBit}
+use Rattle.bits.specs.Pick.{pick}
+use Rattle.bits.specs.Search.{howMany}
+use Rattle.bits.proofs.Bits.{bit-lt, bit-number, number-lt, number-bit, number-cong, turn}
+use Rattle.bits.proofs.Tabs.{getD-over}
+use Rattle.bits.proofs.Searches.{howMany-mono}
+use Rattle.block.specs.Gray.{valueOfWord, numberOfValue}
+use Rattle.block.specs.Block.{wordOfCodewords, symbolOfCodewords, placeInWord, wordOfNumber, received}
+use Rattle.block.specs.Grid.{row, grid, cell, gridOfCodewords, wordOfGrid, wordsOfGrid, gridOfWords, codewordOfGrid, codewordsOfGrid}
+use Rattle.block.proofs.GrayLaws.{word-of-value-of-word, value-lt, value-of-number-of-value, number-of-value-lt}
+
+-- a symbol word has n bits
+pub word-of-codewords-lt : (n : ℕ) (c : ℕ → ℕ) (j : ℕ) → wordOfCodewords n c j < 2 ^ n
+unfolding wordOfCodewords
+word-of-codewords-lt n c j = number-lt n _ (λ k. bit-lt _ _)
+
+-- a symbol has n bits, at the four-wide spacing two more
+pub symbol-lt : (n : ℕ) (wide : Bool) (c : ℕ → ℕ) (j : ℕ) → symbolOfCodewords n wide c j < 2 ^ pick wide (n + 2) n
+unfolding symbolOfCodewords
+symbol-lt n wide c j = number-of-value-lt n wide _ (value-lt n (wordOfCodewords n c j))
+
+-- the place of row i in symbol word j leads back to row i
+pub place-turn : (n i j : ℕ) → i < n → (j + placeInWord n i j) % n ≡ i
+unfolding placeInWord
+place-turn n i j h = turn n i j h
+
+-- that place is one of the word's n bits
+pub place-lt : (n i j : ℕ) → i < n → placeInWord n i j < n
+unfolding placeInWord
+place-lt n i j h = mod-lt (i + n - j % n) (omega arith)
+
+-- what is read from a symbol that came through is the word it was made of
+pub read-symbol : (n : ℕ) (wide : Bool) (c : ℕ → ℕ) (j : ℕ) → wordOfNumber wide (symbolOfCodewords n wide c j) ≡ wordOfCodewords n c j
+unfolding wordOfNumber symbolOfCodewords
+read-symbol n wide c j = rw value-of-number-of-value (word-of-value-of-word n (wordOfCodewords n c j) (word-of-codewords-lt n c j))
+
+-- bit j of codeword i, where it stands in symbol word j
+pub word-bit : (n : ℕ) (c : ℕ → ℕ) (i j : ℕ) → i < n → bit (placeInWord n i j) (wordOfCodewords n c j) ≡ bit j (c i)
+unfolding wordOfCodewords
+word-bit n c i j h = bit-number n _ (λ k. bit-lt _ _) (placeInWord n i j) (place-lt n i j h) ∙ ap (λ (x : ℕ). bit j (c x)) (place-turn n i j h)
+
+-- bit j of a received codeword comes from symbol j alone
+pub bit-received : (n columns : ℕ) (wide : Bool) (s : ℕ → ℕ) (i j : ℕ) → j < columns
+    → bit j (received n columns wide s i) ≡ bit (placeInWord n i j) (wordOfNumber wide (s j))
+unfolding received
+bit-received n columns wide s i j h = bit-number columns _ (λ k. bit-lt _ _) j h
+
+-- damage is local: a symbol that comes through gives its bit of every codeword
+pub local : (n columns : ℕ) (wide : Bool) (c s : ℕ → ℕ) (i j : ℕ) → i < n → j < columns → s j ≡ symbolOfCodewords n wide c j
+    → bit j (received n columns wide s i) ≡ bit j (c i)
+local n columns wide c s i j hi hj e =
+    bit-received n columns wide s i j hj ∙ rw (e, read-symbol) (word-bit n c i j hi)
+
+-- a received codeword has as many bits as there are columns
+pub received-lt : (n columns : ℕ) (wide : Bool) (s : ℕ → ℕ) (i : ℕ) → received n columns wide s i < 2 ^ columns
+unfolding received
+received-lt n columns wide s i = number-lt columns _ (λ k. bit-lt _ _)
+
+-- symbols that agree in the block's columns give the same codewords
+pub received-cong : (n columns : ℕ) (wide : Bool) (s t : ℕ → ℕ) (i : ℕ) → ((j : ℕ) → j < columns → s j ≡ t j)
+    → received n columns wide s i ≡ received n columns wide t i
+unfolding received
+received-cong n columns wide s t i e = number-cong columns _ _ (λ j h. ap (λ (x : ℕ). bit (placeInWord n i j) (wordOfNumber wide x)) (e j h))
+
+-- two numbers below 2 ^ n with the same bits
+pub same-bits : (n a b : ℕ) → a < 2 ^ n → b < 2 ^ n → ((k : ℕ) → k < n → bit k a ≡ bit k b) → a ≡ b
+same-bits n a b ha hb e = sym (number-bit n a ha) ∙ number-cong n _ _ e ∙ number-bit n b hb
+
+-- a codeword whose symbols all come through comes back
+pub read-back : (n columns : ℕ) (wide : Bool) (c s : ℕ → ℕ) (i : ℕ) → i < n → c i < 2 ^ columns
+    → ((j : ℕ) → j < columns → s j ≡ symbolOfCodewords n wide c j) → received n columns wide s i ≡ c i
+read-back n columns wide c s i hi small e =
+    same-bits columns _ _ (received-lt n columns wide s i) small (λ j hj. local n columns wide c s i j hi hj (e j hj))
+
+-- codewords that agree in the block's rows give the same symbol words
+pub word-cong : (n : ℕ) (c d : ℕ → ℕ) (j : ℕ) → ((i : ℕ) → i < n → c i ≡ d i) → wordOfCodewords n c j ≡ wordOfCodewords n d j
+unfolding wordOfCodewords
+word-cong n c d j e = number-cong n _ _ (λ k h. ap (bit j) (e ((j + k) % n) (mod-lt (j + k) (omega arith))))
+
+-- and the same symbols
+pub symbol-cong : (n : ℕ) (wide : Bool) (c d : ℕ → ℕ) (j : ℕ) → ((i : ℕ) → i < n → c i ≡ d i)
+    → symbolOfCodewords n wide c j ≡ symbolOfCodewords n wide d j
+unfolding symbolOfCodewords
+symbol-cong n wide c d j e = ap (λ (w : ℕ). numberOfValue wide (valueOfWord n w)) (word-cong n c d j e)
+
+-- a bit comes back from its truth value
+pub as-bit-is-set : (b : ℕ) → b < 2 → asBit (isSet b) ≡ b
+as-bit-is-set zero h = refl
+as-bit-is-set (suc zero) h = refl
+as-bit-is-set (suc (suc b)) h = absurd (omega arith)
+
+-- the grid's cells are the bits it was made of
+pub cell-grid : (n columns : ℕ) (b : ℕ → ℕ → Bool) (i j : ℕ) → i < n → j < columns → cell (grid n columns b) i j ≡ b i j
+unfolding cell grid row
+cell-grid n columns b i j hi hj =
+    ap (λ (r : List Bool). getD r j false) (getD-over n (λ i. row columns (b i)) _ i [] hi) ∙ getD-over columns (b i) _ j false hj
+
+-- symbol word j, by way of the grid
+pub words-of-codewords : (n columns : ℕ) (cws : List ℕ) (j : ℕ) → j < columns
+    → getD (wordsOfGrid n columns (gridOfCodewords n columns cws)) j 0 ≡ wordOfCodewords n (λ i. getD cws i 0) j
+unfolding wordsOfGrid wordOfGrid gridOfCodewords wordOfCodewords
+words-of-codewords n columns cws j hj =
+    getD-over columns (wordOfGrid n (gridOfCodewords n columns cws)) _ j 0 hj
+    ∙ number-cong n _ _ (λ k h. ap asBit (cell-grid n columns _ ((j + k) % n) j (mod-lt (j + k) (omega arith)) hj) ∙ as-bit-is-set _ (bit-lt j _))
+
+-- codeword i, by way of the grid
+pub codewords-of-words : (n columns : ℕ) (ws : List ℕ) (i : ℕ) → i < n
+    → getD (codewordsOfGrid n columns (gridOfWords n columns ws)) i 0 ≡ number columns (λ j. bit (placeInWord n i j) (getD ws j 0))
+unfolding codewordsOfGrid codewordOfGrid gridOfWords
+codewords-of-words n columns ws i hi =
+    getD-over n (codewordOfGrid columns (gridOfWords n columns ws)) _ i 0 hi
+    ∙ number-cong columns _ _ (λ j h. ap asBit (cell-grid n columns _ i j hi h) ∙ as-bit-is-set _ (bit-lt (placeInWord n i j) _))
+
+-- from the words that the symbols are read as, the codewords as received
+pub codewords-received : (n columns : ℕ) (wide : Bool) (s : ℕ → ℕ) (ws : List ℕ) (i : ℕ) → i < n
+    → ((j : ℕ) → j < columns → getD ws j 0 ≡ wordOfNumber wide (s j))
+    → getD (codewordsOfGrid n columns (gridOfWords n columns ws)) i 0 ≡ received n columns wide s i
+unfolding received
+codewords-received n columns wide s ws i hi e =
+    codewords-of-words n columns ws i hi ∙ number-cong columns _ _ (λ j h. ap (bit (placeInWord n i j)) (e j h))
+
+-- if equal x and y make a and b equal, then unequal a and b make x and y unequal
+not-eqb-mono : (a b x y : ℕ) → (x ≡ y → a ≡ b) → not (eqb a b) ≡ true → not (eqb x y) ≡ true
+not-eqb-mono a b x y f = go (eqb x y) refl
+  where
+    go : (q : Bool) → eqb x y ≡ q → not (eqb a b) ≡ true → not q ≡ true
+    go false e t = refl
+    go true e t = rw (eq-eqb a b (f (eqb-true x y e))) at t
+
+-- however many symbols change, each codeword has at most so many wrong bits
+pub wrong-bits : (n columns : ℕ) (wide : Bool) (c s : ℕ → ℕ) (i : ℕ) → i < n
+    → howMany (λ j. not (eqb (bit j (received n columns wide s i)) (bit j (c i)))) columns
+    ≤ howMany (λ j. not (eqb (s j) (symbolOfCodewords n wide c j))) columns
+wrong-bits n columns wide c s i hi =
+    howMany-mono _ _ columns (λ j hj. not-eqb-mono _ _ (s j) (symbolOfCodewords n wide c j) (local n columns wide c s i j hi hj))

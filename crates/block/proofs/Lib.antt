@@ -1,0 +1,2 @@
+pub mod GrayLaws
+pub mod BlockLaws

@@ -1,0 +1,54 @@
+use native.Mathlib.Omega.{arith}
+use Prim.Native.Nat.{_*_, _-_, _+_, _≤_, _<_, _/_}
+use mathlib.Core.Path.{_≡_, sym, _∙_, ap}
+use Rattle.layout.specs.Layout.{laterBlocks, remaining, rowsOfFirst, rowsOfLater}
+use Rattle.layout.proofs.LayoutLaws.{rows-range, no-later}
+use borrow.Author.Needs.{needs}
+use Rattle.layout.proofs.later_blocks.Statement.{statement}
+use Rattle.layout.proofs.later_blocks.Tie as tie
+use Rattle.layout.proofs.later_blocks.Reads as reads
+use Rattle.layout.proofs.later_blocks.Lts as lts
+use Rattle.bits.proofs.wide.Reads as wide-reads
+use Rattle.layout.proofs.rows_of_later.Reads as rows-of-later-reads
+
+wide-requires : tie.Need-wide-requires
+wide-requires c κs = search needs
+
+sub-first-rows : tie.Need-sub-first-rows
+sub-first-rows c = search needs
+
+rows-of-later-requires : tie.Need-rows-of-later-requires
+rows-of-later-requires c κs = search needs
+
+sub-result : tie.Need-sub-result
+sub-result c = search needs
+
+sub-result-2 : tie.Need-sub-result-2
+sub-result-2 c = omega (arith, c .before .rows-of-later .ensures, rows-range _ (c .before .before .before .args .low) (c .before .before .before .pre .0) (c .before .before .before .pre .1))
+
+add-result : tie.Need-add-result
+add-result c = omega (arith, c .before .rows-of-later .ensures, rows-range _ (c .before .before .before .args .low) (c .before .before .before .pre .0) (c .before .before .before .pre .1))
+
+div-result : tie.Need-div-result
+div-result c = omega (arith, c .before .rows-of-later .ensures, rows-range _ (c .before .before .before .args .low) (c .before .before .before .pre .0) (c .before .before .before .pre .1))
+
+returns : tie.Need-returns
+returns c = sym (no-later _ _ _ (c .before .before .before .pre .0) (c .before .before .before .pre .1) (omega arith))
+
+returns-2 : tie.Need-returns-2
+unfolding laterBlocks remaining rowsOfFirst
+returns-2 c = rw (c .before .rows-of-later .ensures, c .before .before .wide .ensures)
+
+pub later-blocks-spec : {M : Type 1} → statement M
+later-blocks-spec =
+    tie.close
+    (tie.spec
+    wide-requires
+    sub-first-rows
+    rows-of-later-requires
+    sub-result
+    sub-result-2
+    add-result
+    div-result
+    returns
+    returns-2)
