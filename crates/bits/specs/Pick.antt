@@ -10,3 +10,8 @@ pick false a b = b
 abbrev pub both : Bool → Bool → Bool
 both true b = b
 both false b = false
+
+-- a check before anything else: where it fails the refusal, where it holds what comes next
+abbrev pub check {ℓ} : {A : Type ℓ} → Bool → A → A → A
+check true refusal next = next
+check false refusal next = refusal

@@ -1,2 +1,4 @@
-pub mod GrayLaws
 pub mod BlockLaws
+pub mod GrayLaws
+pub mod GrayLoop
+pub mod GridLoop

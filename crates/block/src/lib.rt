@@ -1,9 +1,8 @@
 // A block's codewords as symbol words and back, through the grid of bits; a word as a symbol number and back.
 ghost use mathlib.Core.Path.{_≡_};
-ghost use mathlib.Core.Bool.{Bool};
-ghost use Prim.Native.Nat.{ℕ, _+_, _*_, _%_, _^_, _<_, _≤_};
-ghost use lib.ListN.{length, getD};
-ghost use Rattle.bits.specs.Bit.{bit, asBit, isSet};
+ghost use Prim.Native.Nat.{_*_, _%_, _^_, _<_, _≤_};
+ghost use lib.ListN.{getD};
+ghost use Rattle.bits.specs.Bit.{bit, isSet};
 ghost use Rattle.block.specs.Gray.{valueOfWord, wordOfValue, numberOfValue, valueOfNumber};
 ghost use Rattle.block.specs.Block.{placeInWord, wordOfNumber};
 ghost use Rattle.block.specs.Grid.{Size, row, gridOfCodewords, wordOfGrid, wordsOfGrid, gridOfWords, codewordOfGrid, codewordsOfGrid};
@@ -46,6 +45,32 @@ pub fn word_of_number(wide: bool, s: u16) -> u16
     word_of_value(value_of_number(wide, s))
 }
 
+// A place less than three times round n places, as one of them.
+fn around(n: usize, at: usize) -> usize
+    requires { ⌜ (n ≤ 12) × (at < 3 * n) ⌝ }
+    ensures { λ r. ⌜ (r ≡ at % n) × (r < n) ⌝ }
+{
+    if at < n {
+        at
+    } else if at < 2 * n {
+        at - n
+    } else {
+        at - 2 * n
+    }
+}
+
+// The bits of a codeword as a row.
+fn row_of_codeword(columns: usize, codeword: u8) -> [bool; 8]
+    requires { ⌜ columns ≤ 8 ⌝ }
+    ensures { λ r. ⌜ r ≡ row columns (λ j. isSet (bit j codeword)) ⌝ }
+{
+    let mut cells = [false; 8];
+    for j in 0..columns {
+        cells[j] = (codeword >> j) % 2 == 1;
+    }
+    cells
+}
+
 pub fn grid_of_codewords(n: usize, columns: usize, codewords: [u8; 12]) -> [[bool; 8]; 12]
     requires { ⌜ Size n columns ⌝ }
     ensures { λ r. ⌜ r ≡ gridOfCodewords n columns codewords ⌝ }
@@ -55,6 +80,21 @@ pub fn grid_of_codewords(n: usize, columns: usize, codewords: [u8; 12]) -> [[boo
         g[i] = row_of_codeword(columns, codewords[i]);
     }
     g
+}
+
+// Word j down its diagonal, from the highest bit.
+fn word_of_grid(n: usize, g: [[bool; 8]; 12], j: usize) -> u16
+    requires { ⌜ (5 ≤ n) × (n ≤ 12) × (j < 8) ⌝ }
+    ensures { λ r. ⌜ r ≡ wordOfGrid n g j ⌝ }
+{
+    let mut w: u16 = 0;
+    let mut k = n;
+    while k > 0 {
+        k -= 1;
+        let i = around(n, j + k);
+        w = w * 2 + g[i][j] as u16;
+    }
+    w
 }
 
 pub fn words_of_grid(n: usize, columns: usize, g: [[bool; 8]; 12]) -> [u16; 8]
@@ -68,6 +108,19 @@ pub fn words_of_grid(n: usize, columns: usize, g: [[bool; 8]; 12]) -> [u16; 8]
     words
 }
 
+// Row i: one bit of each word.
+fn row_of_words(n: usize, columns: usize, words: [u16; 8], i: usize) -> [bool; 8]
+    requires { ⌜ Size n columns × (i < n) ⌝ }
+    ensures { λ r. ⌜ r ≡ row columns (λ j. isSet (bit (placeInWord n i j) (getD words j 0))) ⌝ }
+{
+    let mut cells = [false; 8];
+    for j in 0..columns {
+        let k = around(n, i + 2 * n - j);
+        cells[j] = (words[j] >> k) % 2 == 1;
+    }
+    cells
+}
+
 pub fn grid_of_words(n: usize, columns: usize, words: [u16; 8]) -> [[bool; 8]; 12]
     requires { ⌜ Size n columns ⌝ }
     ensures { λ r. ⌜ r ≡ gridOfWords n columns words ⌝ }
@@ -77,6 +130,20 @@ pub fn grid_of_words(n: usize, columns: usize, words: [u16; 8]) -> [[bool; 8]; 1
         g[i] = row_of_words(n, columns, words, i);
     }
     g
+}
+
+// The bits of row i, from the highest.
+fn codeword_of_grid(columns: usize, g: [[bool; 8]; 12], i: usize) -> u8
+    requires { ⌜ (columns ≤ 8) × (i < 12) ⌝ }
+    ensures { λ r. ⌜ r ≡ codewordOfGrid columns g i ⌝ }
+{
+    let mut codeword: u8 = 0;
+    let mut j = columns;
+    while j > 0 {
+        j -= 1;
+        codeword = codeword * 2 + g[i][j] as u8;
+    }
+    codeword
 }
 
 pub fn codewords_of_grid(n: usize, columns: usize, g: [[bool; 8]; 12]) -> [u8; 12]

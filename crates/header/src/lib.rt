@@ -1,37 +1,125 @@
 // The five header nibbles, and what five nibbles say.
 ghost use mathlib.Core.Path.{_≡_};
-ghost use Prim.Native.Nat.{_<_, _≤_};
-ghost use lib.ListN.{getD};
-ghost use Rattle.header.specs.Header.{c4, lowChecks, headerNibbles, checksHold, verdictOf};
+ghost use Prim.Native.Nat.{_+_, _*_, _<_, _≤_};
+ghost use Rattle.bits.specs.Bit.{bit, asBit};
+ghost use Rattle.header.specs.Header.{c0, c1, c2, c3, c4, lowChecks, headerNibbles, checksHold, verdictOf};
 
 // What a header says, or the number of the refusal.
 pub enum Verdict {
-    Says { length: usize, cr: u8, checksum: bool },
-    Refused { number: u8 },
+    Says {
+        length: usize,
+        cr: u8,
+        checksum: bool,
+    },
+    Refused {
+        number: u8,
+    },
 }
 
+// Bit k of x.
+fn bit(k: u8, x: u8) -> u8
+    requires { ⌜ k < 8 ⌝ }
+    ensures { λ r. ⌜ (r ≡ bit k x) × (r < 2) ⌝ }
+{
+    (x >> k) % 2
+}
+
+// The check bits of the first three nibbles a, b and e: c4, c3, c2, c1 and c0.
+fn check4(a: u8) -> u8
+    ensures { λ r. ⌜ r ≡ c4 a 0 0 ⌝ }
+{
+    (bit(3, a) + bit(2, a) + bit(1, a) + bit(0, a)) % 2
+}
+
+fn check3(a: u8, b: u8, e: u8) -> u8
+    ensures { λ r. ⌜ (r ≡ c3 a b e) × (r < 2) ⌝ }
+{
+    (bit(3, a) + bit(3, b) + bit(2, b) + bit(1, b) + bit(0, e)) % 2
+}
+
+fn check2(a: u8, b: u8, e: u8) -> u8
+    ensures { λ r. ⌜ (r ≡ c2 a b e) × (r < 2) ⌝ }
+{
+    (bit(2, a) + bit(3, b) + bit(0, b) + bit(3, e) + bit(1, e)) % 2
+}
+
+fn check1(a: u8, b: u8, e: u8) -> u8
+    ensures { λ r. ⌜ (r ≡ c1 a b e) × (r < 2) ⌝ }
+{
+    (bit(1, a) + bit(2, b) + bit(0, b) + bit(2, e) + bit(1, e) + bit(0, e)) % 2
+}
+
+fn check0(a: u8, b: u8, e: u8) -> u8
+    ensures { λ r. ⌜ (r ≡ c0 a b e) × (r < 2) ⌝ }
+{
+    (bit(0, a) + bit(1, b) + bit(0, b) + bit(3, e) + bit(2, e) + bit(1, e) + bit(0, e)) % 2
+}
+
+// c3 c2 c1 c0 as a nibble.
+fn low_checks(a: u8, b: u8, e: u8) -> u8
+    ensures { λ r. ⌜ r ≡ lowChecks a b e ⌝ }
+{
+    check3(a, b, e) * 8 + check2(a, b, e) * 4 + check1(a, b, e) * 2 + check0(a, b, e)
+}
+
+// The third nibble: CR x 2 + checksum flag.
+fn third(cr: u8, checksum: bool) -> u8
+    requires { ⌜ cr ≤ 4 ⌝ }
+    ensures { λ r. ⌜ r ≡ cr * 2 + asBit checksum ⌝ }
+{
+    if checksum { cr * 2 + 1 } else { cr * 2 }
+}
+
+// The header of a payload.
 pub fn header_nibbles(length: usize, cr: u8, checksum: bool) -> [u8; 5]
     requires { ⌜ (length < 256) × (cr ≤ 4) ⌝ }
     ensures { λ r. ⌜ r ≡ headerNibbles length cr checksum ⌝ }
 {
-    let a = (length / 16 % 16) as u8;
+    let a = (length / 16) as u8;
     let b = (length % 16) as u8;
-    let e = if checksum { cr * 2 + 1 } else { cr * 2 };
-    [a, b, e, top_check(a), low_checks(a, b, e)]
+    let e = third(cr, checksum);
+    [a, b, e, check4(a), low_checks(a, b, e)]
 }
 
-pub fn verdict(h: [u8; 5]) -> Verdict
+// Whether the five check bits are those of the first three nibbles.
+fn checks_hold(h: [u8; 5]) -> bool
+    ensures { λ r. ⌜ r ≡ checksHold h ⌝ }
+{
+    if bit(0, h[3]) != check4(h[0]) {
+        return false;
+    }
+    h[4] == low_checks(h[0], h[1], h[2])
+}
+
+// The length from its high and its low nibble.
+fn length_of(a: u8, b: u8) -> usize
+    ensures { λ r. ⌜ r ≡ a * 16 + b ⌝ }
+{
+    bits::wide(a) * 16 + bits::wide(b)
+}
+
+// What five nibbles say.
+pub fn judge(h: [u8; 5]) -> Verdict
     ensures { λ r. ⌜ r ≡ verdictOf h ⌝ }
 {
-    if !checks_hold(h) {
+    let checks = checks_hold(h);
+    let zeros = h[3] / 2 == 0;
+    if !checks {
         return Verdict::Refused { number: 9 };
     }
-    if h[3] / 2 != 0 {
+    if !zeros {
         return Verdict::Refused { number: 10 };
     }
     let cr = h[2] / 2;
-    if cr == 0 || 4 < cr {
+    if cr == 0 {
         return Verdict::Refused { number: 11 };
     }
-    Verdict::Says { length: bits::wide(h[0]) * 16 + bits::wide(h[1]), cr, checksum: h[2] % 2 == 1 }
+    if 4 < cr {
+        return Verdict::Refused { number: 11 };
+    }
+    Verdict::Says {
+        length: length_of(h[0], h[1]),
+        cr,
+        checksum: h[2] % 2 == 1,
+    }
 }

@@ -10,7 +10,7 @@ use lib.Arith.{digits-div}
 use borrow.Author.Tests.{lt-ltb, le-ltb}
 use Rattle.bits.specs.Pick.{pick}
 use Rattle.layout.specs.declared.Block.{Block}
-use Rattle.layout.specs.Layout.{Valid, rowsOfFirst, rowsOfLater, blockOf, blockOfCodeword, blockOfSymbol, dataNibbles, remaining, laterBlocks, symbolCount}
+use Rattle.layout.specs.Layout.{Valid, Fits, rowsOfFirst, rowsOfLater, firstBlock, blockOf, blockOfCodeword, blockOfSymbol, dataNibbles, remaining, laterBlocks, symbolCount}
 
 pub product-le : (m n : ℕ) {a b : ℕ} → a ≤ m → b ≤ n → a * b ≤ m * n
 product-le m n h k = mul-le-mul h k
@@ -27,7 +27,7 @@ pub block-later : (sf : ℕ) (low : Bool) (cr b : ℕ) → 0 < b → blockOf sf 
   base = rowsOfFirst sf + rowsOfLater sf low * (b - 1);
   first = 8 + (cr + 4) * (b - 1)
 }
-unfolding blockOf
+unfolding blockOf firstBlock
 block-later sf low cr zero h = absurd (omega arith)
 block-later sf low cr (suc b) h = let e : suc b - 1 ≡ b = omega arith in rw e
 
@@ -70,14 +70,14 @@ data-le len false h = omega arith
 -- how block b is followed by the next
 module _ (sf : ℕ) (low : Bool) (cr : ℕ) where
   pub base-next : (b : ℕ) → blockOf sf low cr (b + 1) .base ≡ blockOf sf low cr b .base + blockOf sf low cr b .rows
-  unfolding blockOf
+  unfolding blockOf firstBlock
   base-next zero = omega arith
   base-next (suc b) =
       let e : suc b + 1 ≡ suc (suc b) = omega arith in
       rw e (omega arith)
 
   pub first-next : (b : ℕ) → blockOf sf low cr (b + 1) .first ≡ blockOf sf low cr b .first + (blockOf sf low cr b .rate + 4)
-  unfolding blockOf
+  unfolding blockOf firstBlock
   first-next zero = omega arith
   first-next (suc b) =
       let e : suc b + 1 ≡ suc (suc b) = omega arith in
@@ -85,18 +85,18 @@ module _ (sf : ℕ) (low : Bool) (cr : ℕ) where
 
   module _ (v : Valid sf cr) where
     pub rows-fit : (b : ℕ) → (5 ≤ blockOf sf low cr b .rows) × (blockOf sf low cr b .rows ≤ 12)
-    unfolding blockOf rowsOfFirst
+    unfolding blockOf firstBlock rowsOfFirst
     rows-fit zero = omega arith
     rows-fit (suc b) = rows-range sf low (v .sf-low) (v .sf-high)
 
     pub rate-fits : (b : ℕ) → (1 ≤ blockOf sf low cr b .rate) × (blockOf sf low cr b .rate ≤ 4)
-    unfolding blockOf
+    unfolding blockOf firstBlock
     rate-fits zero = omega arith
     rate-fits (suc b) = omega arith
 
     -- a codeword, and a symbol, that stand in block b
     pub codeword-in : (b i : ℕ) → i < blockOf sf low cr b .rows → blockOfCodeword sf low (blockOf sf low cr b .base + i) ≡ b
-    unfolding blockOf blockOfCodeword
+    unfolding blockOf firstBlock blockOfCodeword
     codeword-in zero i h = rw (lt-ltb (0 + i) (rowsOfFirst sf) (omega arith))
     codeword-in (suc b) i h =
         let n : ℕ = rowsOfLater sf low in
@@ -105,7 +105,7 @@ module _ (sf : ℕ) (low : Bool) (cr : ℕ) where
         rw (le-ltb x (rowsOfFirst sf) (omega arith), e) (ap suc (digits-div b h))
 
     pub symbol-in : (b j : ℕ) → j < blockOf sf low cr b .rate + 4 → blockOfSymbol cr (blockOf sf low cr b .first + j) ≡ b
-    unfolding blockOf blockOfSymbol
+    unfolding blockOf firstBlock blockOfSymbol
     symbol-in zero j h = rw (lt-ltb (0 + j) 8 (omega arith))
     symbol-in (suc b) j h =
         let n : ℕ = cr + 4 in
@@ -116,22 +116,22 @@ module _ (sf : ℕ) (low : Bool) (cr : ℕ) where
     module _ (nibbles : ℕ) where
       -- each block of the frame begins below its last nibble, the blocks have places for all nibbles, and the symbols are as many as counted
       pub base-below : (b : ℕ) → 0 < nibbles → b ≤ laterBlocks sf low nibbles → blockOf sf low cr b .base < nibbles
-      unfolding remaining blockOf
+      unfolding remaining blockOf firstBlock
       base-below zero p h = p
       base-below (suc b) p h =
           let (five, twelve) = rows-range sf low (v .sf-low) (v .sf-high) in
           omega (arith, later-needed sf low nibbles (v .sf-low) (v .sf-high), mul-le-mul-left (rowsOfLater sf low) h)
 
       pub base-end : nibbles ≤ blockOf sf low cr (laterBlocks sf low nibbles + 1) .base
-      unfolding remaining blockOf
+      unfolding remaining blockOf firstBlock
       base-end = rw add-one (omega (arith, later-enough sf low nibbles (v .sf-low) (v .sf-high)))
 
       pub first-end : blockOf sf low cr (laterBlocks sf low nibbles + 1) .first ≡ symbolCount sf low cr nibbles
-      unfolding blockOf symbolCount
+      unfolding blockOf firstBlock symbolCount
       first-end = rw add-one
 
       pub symbols-below : (b : ℕ) → b ≤ laterBlocks sf low nibbles → blockOf sf low cr b .first + (blockOf sf low cr b .rate + 4) ≤ symbolCount sf low cr nibbles
-      unfolding blockOf symbolCount
+      unfolding blockOf firstBlock symbolCount
       symbols-below zero h = omega arith
       symbols-below (suc b) h = omega (arith, mul-le-mul-left (cr + 4) h)
 
@@ -141,3 +141,24 @@ unfolding laterBlocks remaining rowsOfFirst
 no-later sf low nibbles h k m =
     let (five, twelve) = rows-range sf low h k in
     div-eq-of-lt (omega arith)
+
+-- a block of a frame is as blocks are
+pub block-fits : (sf : ℕ) (low : Bool) (cr b : ℕ) → Valid sf cr → b ≤ 255 → Fits (blockOf sf low cr b)
+unfolding blockOf firstBlock rowsOfFirst
+block-fits sf low cr zero v h =
+    record { rows-low = omega arith; rows-high = omega arith; rate-low = omega arith; rate-high = omega arith; base-high = omega arith; first-high = omega arith }
+block-fits sf low cr (suc b) v h =
+    let (five, twelve) = rows-range sf low (v .sf-low) (v .sf-high) in
+    record {
+      rows-low = five;
+      rows-high = twelve;
+      rate-low = v .cr-low;
+      rate-high = v .cr-high;
+      base-high = omega (arith, product-le 12 255 {b = b} twelve (omega arith));
+      first-high = omega (arith, product-le 8 255 {a = cr + 4} {b = b} (omega arith) (omega arith))
+    }
+
+-- the codewords of block 0, whatever the rest of the frame is like
+pub in-first : (sf : ℕ) (low : Bool) (i : ℕ) → i < sf - 2 → blockOfCodeword sf low i ≡ 0
+unfolding blockOfCodeword rowsOfFirst
+in-first sf low i h = rw (lt-ltb i (sf - 2) h)

@@ -21,10 +21,14 @@ rowsOfFirst sf = sf - 2
 unfoldable pub rowsOfLater : ℕ → Bool → ℕ
 rowsOfLater sf low = pick low (sf - 2) sf
 
--- block 0 always has rate 4/8 and 8 symbols at the four-wide spacing; later blocks have the frame's CR, CR + 4 symbols
--- and that spacing exactly at low rate. `base` is the number of a block's first codeword, `first` of its first symbol
+-- block 0 always has rate 4/8 and 8 symbols at the four-wide spacing. `base` is the number of a block's first codeword,
+-- `first` that of its first symbol
+unfoldable pub firstBlock : ℕ → Block
+firstBlock sf = record { rate = 4; rows = rowsOfFirst sf; wide = true; base = 0; first = 0 }
+
+-- later blocks have the frame's CR, CR + 4 symbols, and that spacing exactly at low rate
 unfoldable pub blockOf : ℕ → Bool → ℕ → ℕ → Block
-blockOf sf low cr zero = record { rate = 4; rows = rowsOfFirst sf; wide = true; base = 0; first = 0 }
+blockOf sf low cr zero = firstBlock sf
 blockOf sf low cr (suc b) =
     record {
       rate = cr;
@@ -64,3 +68,12 @@ pub record Valid (sf cr : ℕ) : Type 0 where
   pub sf-high : sf ≤ 12
   pub cr-low : 1 ≤ cr
   pub cr-high : cr ≤ 4
+
+-- a block as blocks are: 5 to 12 rows, CR 1 to 4, no further on than the largest frame
+pub record Fits (B : Block) : Type 0 where
+  pub rows-low : 5 ≤ B .rows
+  pub rows-high : B .rows ≤ 12
+  pub rate-low : 1 ≤ B .rate
+  pub rate-high : B .rate ≤ 4
+  pub base-high : B .base ≤ 4096
+  pub first-high : B .first ≤ 4096

@@ -1,7 +1,7 @@
 use Prim.Native.Nat.{_*_, _-_, _+_, _≤_}
 use mathlib.Core.Path.{sym}
 use native.Mathlib.Omega.{arith}
-use Rattle.layout.specs.Layout.{blockOf, rowsOfFirst}
+use Rattle.layout.specs.Layout.{blockOf, firstBlock, rowsOfFirst}
 use Rattle.layout.proofs.LayoutLaws.{rows-range, product-le, block-later}
 use borrow.Author.Needs.{needs}
 use Rattle.layout.proofs.block_at.Statement.{statement}
@@ -23,7 +23,7 @@ sub-first-rows : tie.Need-sub-first-rows
 sub-first-rows c = search needs
 
 returns : tie.Need-returns
-unfolding blockOf rowsOfFirst
+unfolding blockOf firstBlock rowsOfFirst
 returns c = rw (c .if1 .taken, c .before .wide .ensures)
 
 rows-of-later-requires : tie.Need-rows-of-later-requires

@@ -1,0 +1,59 @@
+use Rattle.header.specs.Header.{c1}
+use native.Mathlib.Nat.{mod-lt, zero-lt-suc}
+use borrow.Author.Needs.{needs}
+use Rattle.header.proofs.check1.Statement.{statement}
+use Rattle.header.proofs.check1.Tie as tie
+
+bit-requires : tie.Need-bit-requires
+bit-requires c κs = search needs
+
+bit-requires-2 : tie.Need-bit-requires-2
+bit-requires-2 c κs = search needs
+
+add-result : tie.Need-add-result
+add-result c = search needs
+
+bit-requires-3 : tie.Need-bit-requires-3
+bit-requires-3 c κs = search needs
+
+add-result-2 : tie.Need-add-result-2
+add-result-2 c = search needs
+
+bit-requires-4 : tie.Need-bit-requires-4
+bit-requires-4 c κs = search needs
+
+add-result-3 : tie.Need-add-result-3
+add-result-3 c = search needs
+
+bit-requires-5 : tie.Need-bit-requires-5
+bit-requires-5 c κs = search needs
+
+add-result-4 : tie.Need-add-result-4
+add-result-4 c = search needs
+
+bit-requires-6 : tie.Need-bit-requires-6
+bit-requires-6 c κs = search needs
+
+add-result-5 : tie.Need-add-result-5
+add-result-5 c = search needs
+
+returns : tie.Need-returns
+unfolding c1
+returns c = (rw (c .before .before .before .before .before .bit .ensures .0, c .before .before .before .before .bit2 .ensures .0, c .before .before .before .bit3 .ensures .0, c .before .before .bit4 .ensures .0, c .before .bit5 .ensures .0, c .bit6 .ensures .0), mod-lt _ (zero-lt-suc 1))
+
+pub check1-spec : {M : Type 1} → statement M
+check1-spec =
+    tie.close
+    (tie.spec
+    bit-requires
+    bit-requires-2
+    add-result
+    bit-requires-3
+    add-result-2
+    bit-requires-4
+    add-result-3
+    bit-requires-5
+    add-result-4
+    bit-requires-6
+    add-result-5
+    returns)

@@ -1,0 +1,5 @@
+pub mod Count
+pub mod Airtime
+pub mod Code
+pub mod Head
+pub mod Read
