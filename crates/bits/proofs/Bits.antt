@@ -45,6 +45,10 @@ number-cong zero f g e = refl
 number-cong (suc n) f g e =
     ap₂ (λ (x y : ℕ). x * 2 + y) (number-cong n (λ i. f (suc i)) (λ i. g (suc i)) (λ k h. e (suc k) (suc-le-suc h))) (e 0 (zero-lt-suc n))
 
+-- two numbers below 2 ^ n with the same bits
+pub same-bits : (n a b : ℕ) → a < 2 ^ n → b < 2 ^ n → ((k : ℕ) → k < n → bit k a ≡ bit k b) → a ≡ b
+same-bits n a b ha hb e = sym (number-bit n a ha) ∙ number-cong n _ _ e ∙ number-bit n b hb
+
 -- the row that a diagonal's place came from
 pub turn : (N i j : ℕ) → i < N → (j + (i + N - j % N) % N) % N ≡ i
 turn N i j h =

@@ -4,7 +4,7 @@ use mathlib.Core.Path.{_≡_, refl, sym, ap, ap₂, _∙_}
 use mathlib.Core.Bool.{Bool, true, false, not}
 use mathlib.Core.Logic.{_⊎_, inl, inr, ⊎-elim}
 use Prim.Native.Nat.{ℕ, zero, suc, _+_, _-_, _<_, _≤_}
-use native.Mathlib.Nat.{add-zero, sub-zero}
+use native.Mathlib.Nat.{add-zero, add-suc, sub-zero}
 use native.Mathlib.Numerals.{add-one}
 use native.Mathlib.Omega.{arith}
 use native.Mathlib.Decide.{ℕ-discrete}
@@ -142,3 +142,20 @@ howMany-mono p q (suc n) e = omega (arith, howMany-mono p q n (λ k h. e k (omeg
     one : (a b : Bool) → (a ≡ true → b ≡ true) → asBit a ≤ asBit b
     one true b h = rw (h refl) (omega arith)
     one false b h = omega arith
+
+-- a search, and a count, among places that are counted from a on
+pub first-shift : (p : ℕ → Bool) (a n i : ℕ) → first p n (a + i) ≡ a + first (λ k. p (a + k)) n i
+unfolding first
+first-shift p a zero i = refl
+first-shift p a (suc n) i =
+    let e : a + i + 1 ≡ a + (i + 1) = omega arith in
+    rw (e, first-shift p a n (i + 1)) (out (p (a + i)))
+  where
+    out : (b : Bool) → pick b (a + i) (a + first (λ k. p (a + k)) n (i + 1)) ≡ a + pick b i (first (λ k. p (a + k)) n (i + 1))
+    out true = refl
+    out false = refl
+
+pub howMany-add : (p : ℕ → Bool) (a n : ℕ) → howMany p (a + n) ≡ howMany p a + howMany (λ k. p (a + k)) n
+unfolding howMany
+howMany-add p a zero = rw (add-zero, add-zero)
+howMany-add p a (suc n) = rw (add-suc, howMany-add p a n) (omega arith)

@@ -12,7 +12,7 @@ use borrow.Author.Tests.{eqb-true, eq-eqb}
 use Rattle.bits.specs.Bit.{bit, number, isSet, asBit}
 use Rattle.bits.specs.Pick.{pick}
 use Rattle.bits.specs.Search.{howMany}
-use Rattle.bits.proofs.Bits.{bit-lt, bit-number, number-lt, number-bit, number-cong, turn}
+use Rattle.bits.proofs.Bits.{bit-lt, bit-number, number-lt, number-bit, number-cong, turn, same-bits}
 use Rattle.bits.proofs.Tabs.{getD-over}
 use Rattle.bits.proofs.Searches.{howMany-mono}
 use Rattle.block.specs.Gray.{valueOfWord, numberOfValue}
@@ -72,10 +72,6 @@ pub received-cong : (n columns : ℕ) (wide : Bool) (s t : ℕ → ℕ) (i : ℕ
     → received n columns wide s i ≡ received n columns wide t i
 unfolding received
 received-cong n columns wide s t i e = number-cong columns _ _ (λ j h. ap (λ (x : ℕ). bit (placeInWord n i j) (wordOfNumber wide x)) (e j h))
-
--- two numbers below 2 ^ n with the same bits
-pub same-bits : (n a b : ℕ) → a < 2 ^ n → b < 2 ^ n → ((k : ℕ) → k < n → bit k a ≡ bit k b) → a ≡ b
-same-bits n a b ha hb e = sym (number-bit n a ha) ∙ number-cong n _ _ e ∙ number-bit n b hb
 
 -- a codeword whose symbols all come through comes back
 pub read-back : (n columns : ℕ) (wide : Bool) (c s : ℕ → ℕ) (i : ℕ) → i < n → c i < 2 ^ columns
