@@ -159,3 +159,12 @@ pub howMany-add : (p : ℕ → Bool) (a n : ℕ) → howMany p (a + n) ≡ howMa
 unfolding howMany
 howMany-add p a zero = rw (add-zero, add-zero)
 howMany-add p a (suc n) = rw (add-suc, howMany-add p a n) (omega arith)
+
+-- a search over fewer places: it finds the same where that is among them, else nothing
+pub first-fewer : (p : ℕ → Bool) (m n i : ℕ) → m ≤ n → first p n i < i + m → first p m i ≡ first p n i
+first-fewer p m n i h l =
+    let (low, high) = first-range p n i in
+    first-is p m i (first p n i) low l (first-found p n i (omega arith)) (λ k a b. first-before p n i k a b)
+
+pub first-later : (p : ℕ → Bool) (m n i : ℕ) → i + m ≤ first p n i → first p m i ≡ i + m
+first-later p m n i h = first-none p m i (λ k a b. first-before p n i k a (omega arith))

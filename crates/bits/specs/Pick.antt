@@ -11,6 +11,10 @@ abbrev pub both : Bool → Bool → Bool
 both true b = b
 both false b = false
 
+abbrev pub either : Bool → Bool → Bool
+either true b = true
+either false b = b
+
 -- a check before anything else: where it fails the refusal, where it holds what comes next
 abbrev pub check {ℓ} : {A : Type ℓ} → Bool → A → A → A
 check true refusal next = next

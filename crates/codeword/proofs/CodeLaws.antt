@@ -150,40 +150,40 @@ unfolding nibbleAway
 away-found n cr w h = eqb-true _ _ (first-found (λ d. eqb (apart cr w (codeword cr d)) n) 16 0 h)
 
 -- what a reading says of the word's distance from the codeword of the nibble read
-abbrev pub Sound : ℕ → ℕ → Heard → Type 0
-Sound cr w (Taken d) = (apart cr w (codeword cr d) ≡ 0) × (d < 16)
-Sound cr w (Repaired d) = (apart cr w (codeword cr d) ≡ 1) × (d < 16)
-Sound cr w Unreadable = Unit {0}
+abbrev pub Near : ℕ → ℕ → Heard → Type 0
+Near cr w (Taken d) = (apart cr w (codeword cr d) ≡ 0) × (d < 16)
+Near cr w (Repaired d) = (apart cr w (codeword cr d) ≡ 1) × (d < 16)
+Near cr w Unreadable = Unit {0}
 
-sound-repair : (cr w : ℕ) → Sound cr w (repairOf cr w)
+near-repair : (cr w : ℕ) → Near cr w (repairOf cr w)
 unfolding repairOf
-sound-repair cr w = reach (leb 3 cr) (ltb (nibbleAway 1 cr w) 16) refl
+near-repair cr w = reach (leb 3 cr) (ltb (nibbleAway 1 cr w) 16) refl
   where
-    reach : (a b : Bool) → ltb (nibbleAway 1 cr w) 16 ≡ b → Sound cr w (pick a (pick b (Repaired (nibbleAway 1 cr w)) Unreadable) Unreadable)
+    reach : (a b : Bool) → ltb (nibbleAway 1 cr w) 16 ≡ b → Near cr w (pick a (pick b (Repaired (nibbleAway 1 cr w)) Unreadable) Unreadable)
     reach true true e = let h = ltb-true _ _ e in (away-found 1 cr w h, h)
     reach true false e = tt
     reach false b e = tt
 
 -- every reading is so
-pub sound : (cr w : ℕ) → Sound cr w (readAs cr w)
+pub heard-near : (cr w : ℕ) → Near cr w (readAs cr w)
 unfolding readAs
-sound cr w = found (ltb (nibbleAway 0 cr w) 16) refl
+heard-near cr w = found (ltb (nibbleAway 0 cr w) 16) refl
   where
-    found : (b : Bool) → ltb (nibbleAway 0 cr w) 16 ≡ b → Sound cr w (pick b (Taken (nibbleAway 0 cr w)) (repairOf cr w))
+    found : (b : Bool) → ltb (nibbleAway 0 cr w) 16 ≡ b → Near cr w (pick b (Taken (nibbleAway 0 cr w)) (repairOf cr w))
     found true e = let h = ltb-true _ _ e in (away-found 0 cr w h, h)
-    found false e = sound-repair cr w
+    found false e = near-repair cr w
 
 -- a word that is taken is the codeword of the nibble read
 pub taken-is : (cr w d : ℕ) → w < 2 ^ (4 + cr) → readAs cr w ≡ Taken d → (w ≡ codeword cr d) × (d < 16)
 taken-is cr w d h e =
-    let (same, small) = subst (Sound cr w) e (sound cr w) in
+    let (same, small) = subst (Near cr w) e (heard-near cr w) in
     (apart-zero cr w (codeword cr d) h (codeword-lt cr d) same, small)
 
 -- a word that is repaired is one bit away from the codeword of the nibble read, and from no other
 pub one-near : (cr w d : ℕ) → Rate cr → w < 2 ^ (4 + cr) → readAs cr w ≡ Repaired d
     → (apart cr w (codeword cr d) ≡ 1) × (d < 16) × ((e : ℕ) → e < 16 → apart cr w (codeword cr e) ≡ 1 → e ≡ d)
 one-near cr w d rate h r =
-    let (one, small) = subst (Sound cr w) r (sound cr w) in
+    let (one, small) = subst (Near cr w) r (heard-near cr w) in
     (one, small, λ e l a. only (leb 3 cr) e (sym (heard-one cr w e rate h l a) ∙ r))
   where
     only : (b : Bool) (e : ℕ) → pick b (Repaired e) Unreadable ≡ Repaired d → e ≡ d
@@ -192,9 +192,9 @@ one-near cr w d rate h r =
 
 -- the nibble read is a nibble
 pub nibble-lt : (cr w : ℕ) → nibbleOf (readAs cr w) < 16
-nibble-lt cr w = small (readAs cr w) (sound cr w)
+nibble-lt cr w = small (readAs cr w) (heard-near cr w)
   where
-    small : (h : Heard) → Sound cr w h → nibbleOf h < 16
+    small : (h : Heard) → Near cr w h → nibbleOf h < 16
     small (Taken d) s = s .1
     small (Repaired d) s = s .1
     small Unreadable s = omega arith

@@ -3,11 +3,12 @@
 use mathlib.Core.Path.{_≡_, refl, sym, ap, _∙_}
 use mathlib.Core.Bool.{Bool, true, false}
 use Prim.Native.Nat.{ℕ, zero, suc, _+_, _-_, _*_, _/_, _%_, _≤_, _<_}
-use native.Mathlib.Nat.{mul-le-mul, mul-comm, div-add-mod', mod-lt, div-mul-le-self, div-eq-of-lt, mul-le-mul-left, mul-le-mul-right}
+use native.Mathlib.Nat.{mul-le-mul, mul-comm, div-add-mod', mod-lt, div-mul-le-self, div-lt-iff-lt-mul, div-eq-of-lt, mul-le-mul-left, mul-le-mul-right}
 use native.Mathlib.Numerals.{add-one}
 use native.Mathlib.Omega.{arith}
 use lib.Arith.{digits-div}
-use borrow.Author.Tests.{lt-ltb, le-ltb}
+use lib.Dec.{ltb}
+use borrow.Author.Tests.{lt-ltb, le-ltb, ltb-true, ltb-false}
 use Rattle.bits.specs.Pick.{pick}
 use Rattle.layout.specs.declared.Block.{Block}
 use Rattle.layout.specs.Layout.{Valid, Fits, rowsOfFirst, rowsOfLater, firstBlock, blockOf, blockOfCodeword, blockOfSymbol, dataNibbles, remaining, laterBlocks, symbolCount}
@@ -162,3 +163,40 @@ block-fits sf low cr (suc b) v h =
 pub in-first : (sf : ℕ) (low : Bool) (i : ℕ) → i < sf - 2 → blockOfCodeword sf low i ≡ 0
 unfolding blockOfCodeword rowsOfFirst
 in-first sf low i h = rw (lt-ltb i (sf - 2) h)
+
+-- codeword i stands in its block, and the block of a codeword that is read is one of the frame's
+module _ (sf : ℕ) (low : Bool) (cr : ℕ) (v : Valid sf cr) where
+  pub codeword-place : (i : ℕ) → let B : Block = blockOf sf low cr (blockOfCodeword sf low i) in (B .base ≤ i) × (i < B .base + B .rows)
+  unfolding blockOf firstBlock blockOfCodeword
+  codeword-place i = at (ltb i (rowsOfFirst sf)) refl
+    where
+      at : (t : Bool) → ltb i (rowsOfFirst sf) ≡ t
+          → let B : Block = blockOf sf low cr (pick t 0 (suc ((i - rowsOfFirst sf) / rowsOfLater sf low))) in (B .base ≤ i) × (i < B .base + B .rows)
+      at true e = omega (arith, ltb-true i (rowsOfFirst sf) e)
+      at false e =
+          let n : ℕ = rowsOfLater sf low in
+          let x : ℕ = i - rowsOfFirst sf in
+          let (five, twelve) = rows-range sf low (v .sf-low) (v .sf-high) in
+          omega (arith, ltb-false i (rowsOfFirst sf) e, div-add-mod' x n, mod-lt x {m = n} (omega arith), mul-comm n (x / n))
+
+  pub block-of-read : (i nibbles : ℕ) → i < nibbles → blockOfCodeword sf low i ≤ laterBlocks sf low nibbles
+  unfolding blockOfCodeword remaining
+  block-of-read i nibbles h = at (ltb i (rowsOfFirst sf)) refl
+    where
+      at : (t : Bool) → ltb i (rowsOfFirst sf) ≡ t → pick t 0 (suc ((i - rowsOfFirst sf) / rowsOfLater sf low)) ≤ laterBlocks sf low nibbles
+      at true e = omega arith
+      at false e =
+          let n : ℕ = rowsOfLater sf low in
+          let L : ℕ = laterBlocks sf low nibbles in
+          let (five, twelve) = rows-range sf low (v .sf-low) (v .sf-high) in
+          div-lt-iff-lt-mul {k = n} {x = i - rowsOfFirst sf} {y = L} (omega arith) .1
+          (omega (arith, ltb-false i (rowsOfFirst sf) e, later-enough sf low nibbles (v .sf-low) (v .sf-high), mul-comm n L))
+
+  -- the rate of block 0, and of the blocks behind it
+  pub rate-first : (i : ℕ) → i < sf - 2 → blockOf sf low cr (blockOfCodeword sf low i) .rate ≡ 4
+  unfolding blockOf firstBlock
+  rate-first i h = rw (in-first sf low i h)
+
+  pub rate-later : (i : ℕ) → sf - 2 ≤ i → blockOf sf low cr (blockOfCodeword sf low i) .rate ≡ cr
+  unfolding blockOf firstBlock blockOfCodeword rowsOfFirst
+  rate-later i h = rw (le-ltb i (sf - 2) h)

@@ -2,30 +2,30 @@
 -- Assumes nothing.
 use mathlib.Core.Bool.{Bool}
 use Prim.Native.Nat.{ℕ, _+_, _*_, _/_, _^_}
-use lib.Dec.{leb, eqb}
-use Rattle.bits.specs.Pick.{pick, check}
-use Rattle.layout.specs.Layout.{validSf, validCr}
-use Rattle.lora.specs.Count.{symbolsOf}
+use lib.Dec.{eqb}
+use Rattle.bits.specs.Pick.{either, check}
+use Rattle.lora.specs.Count.{countOf}
 use Rattle.lora.specs.declared.Settings.{Settings}
+use Rattle.lora.specs.declared.Counted.{Counted}
+use Rattle.lora.specs.declared.Counted.the-variants.{Symbols, Refused as CountRefused}
 use Rattle.lora.specs.declared.Lasting.{Lasting}
 use Rattle.lora.specs.declared.Lasting.the-variants.{Microseconds, Refused}
 
 -- 125, 250 or 500 kHz
 unfoldable pub validBandwidth : ℕ → Bool
-validBandwidth khz = pick (eqb khz 125) (eqb khz 125) (pick (eqb khz 250) (eqb khz 250) (eqb khz 500))
+validBandwidth khz = either (eqb khz 125) (either (eqb khz 250) (eqb khz 500))
 
--- a quarter of a chirp's length, times the bandwidth in kHz, times the chirps in quarters: n upchirps, two sync chirps,
--- 2.25 downchirps and S symbols make 4 (n + S) + 17 quarters
-unfoldable pub quarters : ℕ → ℕ → ℕ → ℕ
-quarters sf n S = (4 * (n + S) + 17) * 2 ^ sf * 250
+-- n upchirps, two sync chirps, 2.25 downchirps and S symbols: (4(n + S) + 17) x 2^SF x 250 / bandwidth
+unfoldable pub dividend : ℕ → ℕ → ℕ → ℕ
+dividend sf n S = (4 * (n + S) + 17) * 2 ^ sf * 250
 
 unfoldable pub microseconds : ℕ → ℕ → ℕ → ℕ → ℕ
-microseconds sf n S khz = quarters sf n S / khz
+microseconds sf n S khz = dividend sf n S / khz
+
+-- count's checks, then 13
+abbrev pub lasting : Counted → Settings → ℕ → ℕ → Lasting
+lasting (CountRefused number place) s khz n = Refused number place
+lasting (Symbols count) s khz n = check (validBandwidth khz) (Refused 13 0) (Microseconds (microseconds (s .sf) n count khz))
 
 unfoldable pub airtimeOf : Settings → ℕ → ℕ → ℕ → Lasting
-airtimeOf s len khz n =
-    check (validSf (s .sf)) (Refused 1 0)
-    (check (validCr (s .cr)) (Refused 2 0)
-    (check (leb len 255) (Refused 3 0)
-    (check (validBandwidth khz) (Refused 13 0)
-    (Microseconds (microseconds (s .sf) n (symbolsOf s len) khz)))))
+airtimeOf s len khz n = lasting (countOf s len) s khz n

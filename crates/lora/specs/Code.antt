@@ -10,8 +10,7 @@ use Rattle.bits.specs.Tab.{over}
 use Rattle.coding.specs.Nibbles.{frameNibble}
 use Rattle.coding.specs.Symbols.{symbolAt}
 use Rattle.header.specs.Header.{headerNibbles}
-use Rattle.layout.specs.Layout.{validSf, validCr}
-use Rattle.lora.specs.Count.{symbolsOf}
+use Rattle.lora.specs.Count.{countOf}
 use Rattle.lora.specs.declared.Settings.{Settings}
 use Rattle.lora.specs.declared.Counted.{Counted}
 use Rattle.lora.specs.declared.Counted.the-variants.{Symbols, Refused}
@@ -19,16 +18,16 @@ use Rattle.lora.specs.declared.Counted.the-variants.{Symbols, Refused}
 -- symbol t of the frame with these settings and this payload
 unfoldable pub sentSymbol : Settings → List ℕ → ℕ → ℕ
 sentSymbol s payload =
-    symbolAt (s .sf) (s .low_rate) (s .cr)
+    symbolAt (s .sf) (s .low) (s .cr)
     (frameNibble (headerNibbles (length payload) (s .cr) (s .checksum)) payload (s .checksum))
 
+-- count's checks, then 4 for the lent list
+abbrev pub fitting : Counted → ℕ → Counted
+fitting (Refused number place) room = Refused number place
+fitting (Symbols count) room = check (leb count room) (Refused 4 count) (Symbols count)
+
 unfoldable pub codeOf : Settings → List ℕ → ℕ → Counted
-codeOf s payload room =
-    check (validSf (s .sf)) (Refused 1 0)
-    (check (validCr (s .cr)) (Refused 2 0)
-    (check (leb (length payload) 255) (Refused 3 0)
-    (check (leb (symbolsOf s (length payload)) room) (Refused 4 (symbolsOf s (length payload)))
-    (Symbols (symbolsOf s (length payload))))))
+codeOf s payload room = fitting (countOf s (length payload)) room
 
 -- the lent list afterwards: the frame and what stood behind it; after a refusal as it was
 abbrev pub symbolsAfter : Counted → Settings → List ℕ → List ℕ → List ℕ

@@ -16,7 +16,7 @@ nibblesOf len flag = 5 + dataNibbles len flag
 
 -- the symbols of a frame with these settings and a payload of len bytes
 unfoldable pub symbolsOf : Settings → ℕ → ℕ
-symbolsOf s len = symbolCount (s .sf) (s .low_rate) (s .cr) (nibblesOf len (s .checksum))
+symbolsOf s len = symbolCount (s .sf) (s .low) (s .cr) (nibblesOf len (s .checksum))
 
 unfoldable pub countOf : Settings → ℕ → Counted
 countOf s len =

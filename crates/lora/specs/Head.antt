@@ -37,10 +37,15 @@ abbrev pub said : Verdict → Heading
 said (HeaderSays len cr flag) = Says len cr flag
 said (HeaderRefused number) = Refused number 0
 
+-- 7 over codewords 0 to 4; 9; 10; 11
+unfoldable pub headerOf : ℕ → List ℕ → Heading
+headerOf sf symbols =
+    check (leb 5 (badInHeader sf symbols)) (Refused 7 (badInHeader sf symbols))
+    (said (verdictOf (tab 5 (nibbleAt (headerHeard sf symbols)))))
+
 unfoldable pub headOf : ℕ → List ℕ → Heading
 headOf sf symbols =
     check (validSf sf) (Refused 1 0)
     (check (leb 8 (length symbols)) (Refused 5 8)
     (check (leb 8 (firstOver sf symbols 8 0)) (Refused 6 (firstOver sf symbols 8 0))
-    (check (leb 5 (badInHeader sf symbols)) (Refused 7 (badInHeader sf symbols))
-    (said (verdictOf (tab 5 (nibbleAt (headerHeard sf symbols))))))))
+    (headerOf sf symbols)))

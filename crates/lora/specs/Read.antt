@@ -49,18 +49,23 @@ repairsOf sf low cr symbols len flag = howMany (mendedAt (heardAt sf low cr symb
 unfoldable pub totalOf : ℕ → Bool → ℕ → ℕ → Bool → ℕ
 totalOf sf low cr len flag = symbolCount sf low cr (nibblesOf len flag)
 
--- what is left to check once the header says length, CR and flag
+-- 7 and 8 over data codewords in frame order; 12
+unfoldable pub dataOf : ℕ → Bool → List ℕ → ℕ → ℕ → Bool → Received
+dataOf sf low symbols len cr flag =
+    let bad : ℕ = badInData sf low cr symbols len flag in
+    check (leb (nibblesOf len flag) bad) (Refused (refusalAt sf low cr bad) bad)
+    (check (sumHolds sf low cr symbols len flag) (Refused 12 0)
+    (Payload len cr flag (totalOf sf low cr len flag) (repairsOf sf low cr symbols len flag)))
+
+-- once the header says length, CR and flag: 4 for the payload; 5 for the whole frame; 6 over the rest
 unfoldable pub bodyOf : ℕ → Bool → List ℕ → ℕ → ℕ → ℕ → Bool → Received
 bodyOf sf low symbols room len cr flag =
     let total : ℕ = totalOf sf low cr len flag in
     let over : ℕ = firstOver sf symbols (total - 8) 8 in
-    let bad : ℕ = badInData sf low cr symbols len flag in
     check (leb len room) (Refused 4 len)
     (check (leb total (length symbols)) (Refused 5 total)
     (check (leb total over) (Refused 6 over)
-    (check (leb (nibblesOf len flag) bad) (Refused (refusalAt sf low cr bad) bad)
-    (check (sumHolds sf low cr symbols len flag) (Refused 12 0)
-    (Payload len cr flag total (repairsOf sf low cr symbols len flag))))))
+    (dataOf sf low symbols len cr flag)))
 
 abbrev pub onward : Heading → ℕ → Bool → List ℕ → ℕ → Received
 onward (HeadRefused number place) sf low symbols room = Refused number place

@@ -2,6 +2,8 @@
 ghost use mathlib.Core.Path.{_≡_};
 ghost use Prim.Native.Nat.{ℕ, _+_, _*_, _^_, _≤_, _<_};
 ghost use lib.ListN.{length, getD};
+ghost use lib.Dec.{ltb};
+ghost use Rattle.bits.specs.Pick.{pick};
 ghost use Rattle.bits.specs.Tab.{over, blank};
 ghost use Rattle.codeword.specs.Codeword.{Rate};
 ghost use Rattle.layout.specs.Layout.{Valid, Fits, symbolCount};
@@ -13,6 +15,12 @@ use layout::Block;
 pub struct Progress {
     pub end: usize,
     pub repairs: usize,
+}
+
+fn least(a: usize, b: usize) -> usize
+    ensures { λ r. ⌜ r ≡ pick (ltb a b) a b ⌝ }
+{
+    if a < b { a } else { b }
 }
 
 fn words_of_block(b: Block, symbols: &[u16]) -> [u16; 8]
@@ -36,12 +44,22 @@ fn codewords_of_block(b: Block, symbols: &[u16]) -> [u8; 12]
 {
     let rows = b.rows;
     let columns = 4 + bits::wide(b.rate);
-    block::codewords_of_grid(rows, columns, block::grid_of_words(rows, columns, words_of_block(b, symbols)))
+    block::codewords_of_grid(
+        rows,
+        columns,
+        block::grid_of_words(rows, columns, words_of_block(b, symbols)),
+    )
 }
 
 // Reads n codewords of a block into the nibbles from the place at on, up to the first that can't be read.
-fn read_rows(rate: u8, codewords: [u8; 12], n: usize, at: usize, nibbles: &mut [u8; 519]) -> Progress
-    requires { ⌜ Rate rate × (n ≤ 12) × (at + n ≤ 519) × ((i : ℕ) → i < n → getD codewords i 0 < 2 ^ (4 + rate)) ⌝ }
+fn read_rows(
+    rate: u8,
+    codewords: [u8; 12],
+    n: usize,
+    at: usize,
+    nibbles: &mut [u8; 519],
+) -> Progress
+    requires { ⌜ Rate rate × (n ≤ 12) × (at + n ≤ 519) × (length (now nibbles) ≡ 519) × ((i : ℕ) → i < n → getD codewords i 0 < 2 ^ (4 + rate)) ⌝ }
     ensures { λ r. ⌜ Walk (readRow rate codewords) n at (now (nibbles .entry)) (now (nibbles .exit)) (r .end) (r .repairs) ⌝ }
 {
     let mut repairs = 0;
@@ -51,16 +69,21 @@ fn read_rows(rate: u8, codewords: [u8; 12], n: usize, at: usize, nibbles: &mut [
             return Progress { end: i, repairs };
         }
         nibbles[at + i] = codeword::nibble(h);
-        if codeword::repaired(h) {
-            repairs += 1;
-        }
+        repairs += codeword::repaired(h) as usize;
     }
     Progress { end: n, repairs }
 }
 
 // Reads the first n codewords of a frame, up to the first that can't be read.
-pub fn read_frame(sf: u8, low: bool, cr: u8, symbols: &[u16], n: usize, nibbles: &mut [u8; 519]) -> Progress
-    requires { ⌜ Valid sf cr × (1 ≤ n) × (n ≤ 519) × (symbolCount sf low cr n ≤ length (now symbols)) ⌝ }
+pub fn read_frame(
+    sf: u8,
+    low: bool,
+    cr: u8,
+    symbols: &[u16],
+    n: usize,
+    nibbles: &mut [u8; 519],
+) -> Progress
+    requires { ⌜ Valid sf cr × (1 ≤ n) × (n ≤ 519) × (symbolCount sf low cr n ≤ length (now symbols)) × (length (now nibbles) ≡ 519) ⌝ }
     ensures { λ r. ⌜ Walk (heardAt sf low cr (now (symbols .entry))) n 0 (now (nibbles .entry)) (now (nibbles .exit)) (r .end) (r .repairs) ⌝ }
 {
     let blocks = layout::later_blocks(sf, low, n) + 1;
@@ -72,7 +95,10 @@ pub fn read_frame(sf: u8, low: bool, cr: u8, symbols: &[u16], n: usize, nibbles:
         let p = read_rows(b.rate, codewords_of_block(b, symbols), rows, base, nibbles);
         repairs += p.repairs;
         if p.end < rows {
-            return Progress { end: base + p.end, repairs };
+            return Progress {
+                end: base + p.end,
+                repairs,
+            };
         }
     }
     Progress { end: n, repairs }
@@ -83,7 +109,9 @@ fn byte_of_nibbles(nibbles: &[u8; 519], p: usize) -> u8
     requires { ⌜ (p ≤ 256) × ((i : ℕ) → getD (now nibbles) i 0 < 16) ⌝ }
     ensures { λ r. ⌜ r ≡ byteOfNibbles 5 (listed (now (nibbles .entry))) p ⌝ }
 {
-    nibbles[5 + 2 * p] + 16 * nibbles[5 + 2 * p + 1]
+    let low = nibbles[5 + 2 * p];
+    let high = nibbles[5 + 2 * p + 1];
+    low + 16 * high
 }
 
 pub fn payload_of_nibbles(nibbles: &[u8; 519], len: usize) -> [u8; 255]
@@ -101,5 +129,7 @@ pub fn checksum_of_nibbles(nibbles: &[u8; 519], len: usize) -> u16
     requires { ⌜ (len ≤ 255) × ((i : ℕ) → getD (now nibbles) i 0 < 16) ⌝ }
     ensures { λ r. ⌜ r ≡ sentChecksum 5 (listed (now (nibbles .entry))) len ⌝ }
 {
-    (byte_of_nibbles(nibbles, len) as u16) + 256 * (byte_of_nibbles(nibbles, len + 1) as u16)
+    let low = byte_of_nibbles(nibbles, len);
+    let high = byte_of_nibbles(nibbles, len + 1);
+    (low as u16) + 256 * (high as u16)
 }

@@ -1,0 +1,15 @@
+use borrow.Author.Tests.{eq-eqb, ne-eqb}
+use Rattle.coding.specs.Nibbles.{halfOf}
+use Rattle.coding.proofs.half_of.Statement.{statement}
+use Rattle.coding.proofs.half_of.Tie as tie
+
+returns : tie.Need-returns
+unfolding halfOf
+returns c = rw (eq-eqb _ _ (c .if1 .taken))
+
+returns-2 : tie.Need-returns-2
+unfolding halfOf
+returns-2 c = rw (ne-eqb _ _ (c .if1 .left))
+
+pub half-of-spec : {M : Type 1} → statement M
+half-of-spec = tie.close (tie.spec returns returns-2)

@@ -1,0 +1,60 @@
+use mathlib.Core.Path.{_≡_, sym, ap, _∙_}
+use native.Mathlib.Omega.{arith}
+use borrow.Author.Tests.{not-true, not-false}
+use Prim.Native.Nat.{_≤_, _<_}
+use Rattle.lora.specs.declared.Counted.the-variants.{Symbols}
+use Rattle.lora.specs.Count.{countOf}
+use Rattle.lora.specs.Airtime.{airtimeOf, lasting}
+use Rattle.lora.proofs.CountLaws.{Countable, counted, symbols-le, bandwidth-positive}
+use borrow.Author.Needs.{needs}
+use Rattle.lora.proofs.airtime.Statement.{statement}
+use Rattle.lora.proofs.airtime.Tie as tie
+use Rattle.lora.proofs.airtime.Reads as reads
+use Rattle.lora.proofs.airtime.Lts as lts
+use Rattle.lora.proofs.count.Reads as count-reads
+use Rattle.lora.proofs.microseconds.Reads as microseconds-reads
+use Rattle.lora.proofs.valid_bandwidth.Reads as valid-bandwidth-reads
+
+countable : (c : tie.After-counted2) → let a = c .before .before .before .args in Countable (a .s) (a .length) (c .counted2 .given .0 .0)
+countable c = counted _ _ _ (sym (c .before .before .count .ensures) ∙ c .counted2 .given .1)
+
+count-requires : tie.Need-count-requires
+count-requires c κs = search needs
+
+enum-known-counted : tie.Need-enum-known-counted
+enum-known-counted c = search needs
+
+enum-known-counted-2 : tie.Need-enum-known-counted-2
+enum-known-counted-2 c = search needs
+
+valid-bandwidth-requires : tie.Need-valid-bandwidth-requires
+valid-bandwidth-requires c κs = search needs
+
+returns : tie.Need-returns
+unfolding airtimeOf
+returns c = rw (sym (c .before .before .before .before .before .count .ensures) ∙ c .before .before .before .counted2 .given .1, sym (c .before .valid-bandwidth .ensures) ∙ not-true _ (c .if1 .taken))
+
+microseconds-requires : tie.Need-microseconds-requires
+microseconds-requires c κs = let k = countable (c .before .before .before) in
+    (k .settings .sf-high, rw (k .is) (symbols-le _ _ (k .settings) (k .short)), bandwidth-positive _ (sym (c .before .valid-bandwidth .ensures) ∙ not-false _ (c .if1 .left)))
+
+returns-2 : tie.Need-returns-2
+unfolding airtimeOf
+returns-2 c = rw (sym (c .before .before .before .count .ensures) ∙ c .before .counted .given .1)
+
+returns-3 : tie.Need-returns-3
+unfolding airtimeOf
+returns-3 c = rw (sym (c .before .before .before .before .before .before .count .ensures) ∙ c .before .before .before .before .counted2 .given .1, sym (c .before .before .valid-bandwidth .ensures) ∙ not-false _ (c .before .if1 .left), c .microseconds .ensures)
+
+pub airtime-spec : {M : Type 1} → statement M
+airtime-spec =
+    tie.close
+    (tie.spec
+    count-requires
+    enum-known-counted
+    enum-known-counted-2
+    valid-bandwidth-requires
+    returns
+    microseconds-requires
+    returns-2
+    returns-3)

@@ -1,0 +1,4 @@
+pub mod Near
+pub mod Back
+pub mod Outcome
+pub mod Answers

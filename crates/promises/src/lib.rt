@@ -1,0 +1,1 @@
+// The promises are theorems over the contracts of the crate lora: there is no code here.

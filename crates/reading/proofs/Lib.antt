@@ -1,0 +1,3 @@
+pub mod ReadLoop
+pub mod ReadingLaws
+pub mod RowLaws

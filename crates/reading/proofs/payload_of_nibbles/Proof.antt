@@ -1,0 +1,56 @@
+use Prim.Native.Nat.{ℕ, _≤_, _-_}
+use native.Mathlib.Omega.{arith}
+use Rattle.bits.specs.Tab.{blank}
+use Rattle.bits.proofs.Tabs.{length-blank}
+use Rattle.bits.proofs.Fill.{Filled, filled-none, filled-more, filled-end}
+use Rattle.reading.specs.Payload.{payloadByte, listed}
+use borrow.Author.Needs.{needs}
+use Rattle.reading.proofs.payload_of_nibbles.Statement.{statement}
+use Rattle.reading.proofs.payload_of_nibbles.Tie as tie
+
+abbrev Inv-loop : tie.InvT-loop
+Inv-loop nibbles len payload₀ p₀ payload p = (p ≤ len) × Filled (payloadByte 5 (listed nibbles)) (blank 255 0) p payload
+
+abbrev μ-loop : tie.MeasureT-loop
+μ-loop nibbles len payload₀ p₀ payload p = len - p
+
+loop-holds : tie.Need-loop-holds Inv-loop μ-loop
+unfolding blank
+loop-holds c = (search needs, filled-none _ _)
+
+byte-of-nibbles-requires : tie.Need-byte-of-nibbles-requires Inv-loop μ-loop
+byte-of-nibbles-requires c κs = search needs
+
+whitening-requires : tie.Need-whitening-requires Inv-loop μ-loop
+whitening-requires c κs = search needs
+
+array-write-payload : tie.Need-array-write-payload Inv-loop μ-loop
+array-write-payload c = search needs
+
+add-p : tie.Need-add-p Inv-loop μ-loop
+add-p c = search needs
+
+loop-less : tie.Need-loop-less Inv-loop μ-loop
+loop-less c = search needs
+
+loop-again : tie.Need-loop-again Inv-loop μ-loop
+unfolding payloadByte
+loop-again c = (search needs, filled-more (c .before .before .before .loop .inv .1) (omega (arith, length-blank {A = ℕ} 255 0)) (rw (c .before .byte-of-nibbles .ensures, c .whitening .ensures)))
+
+returns : tie.Need-returns Inv-loop μ-loop
+returns c = filled-end (c .before .loop .inv .1) (omega arith)
+
+pub payload-of-nibbles-spec : {M : Type 1} → statement M
+payload-of-nibbles-spec =
+    tie.close
+    (tie.spec
+    Inv-loop
+    μ-loop
+    loop-holds
+    byte-of-nibbles-requires
+    whitening-requires
+    array-write-payload
+    add-p
+    loop-less
+    loop-again
+    returns)
