@@ -2,7 +2,7 @@
 -- Assumes nothing.
 use mathlib.Core.List.{List, [], _∷_, _++_}
 use Prim.Native.Nat.{ℕ, zero, suc, _+_}
-use lib.ListN.{take, drop, replicate}
+use lib.ListN.{length, take, drop, replicate}
 
 module _ {A : Type 0} where
   -- f 0, f 1, .., n of them
@@ -21,3 +21,7 @@ module _ {A : Type 0} where
   -- n times the same
   unfoldable pub blank : ℕ → A → List A
   blank n a = replicate n a
+
+  -- the list l from the place at on, and the rest as it was
+  abbrev pub placed : ℕ → List A → List A → List A
+  placed at l d = take at d ++ (l ++ drop (at + length l) d)

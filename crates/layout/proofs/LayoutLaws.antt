@@ -26,7 +26,7 @@ pub block-later : (sf : ℕ) (low : Bool) (cr b : ℕ) → 0 < b → blockOf sf 
   rows = rowsOfLater sf low;
   wide = low;
   base = rowsOfFirst sf + rowsOfLater sf low * (b - 1);
-  first = 8 + (cr + 4) * (b - 1)
+  first = 8 + (cr + 4) * (b - 1);
 }
 unfolding blockOf firstBlock
 block-later sf low cr zero h = absurd (omega arith)
@@ -156,7 +156,7 @@ block-fits sf low cr (suc b) v h =
       rate-low = v .cr-low;
       rate-high = v .cr-high;
       base-high = omega (arith, product-le 12 255 {b = b} twelve (omega arith));
-      first-high = omega (arith, product-le 8 255 {a = cr + 4} {b = b} (omega arith) (omega arith))
+      first-high = omega (arith, product-le 8 255 {a = cr + 4} {b = b} (omega arith) (omega arith));
     }
 
 -- the codewords of block 0, whatever the rest of the frame is like

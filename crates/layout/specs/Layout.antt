@@ -35,7 +35,7 @@ blockOf sf low cr (suc b) =
       rows = rowsOfLater sf low;
       wide = low;
       base = rowsOfFirst sf + rowsOfLater sf low * b;
-      first = 8 + (cr + 4) * b
+      first = 8 + (cr + 4) * b;
     }
 
 -- codewords are numbered through the frame from 0, block after block: the block of codeword i

@@ -16,21 +16,13 @@ pub struct Block {
 pub fn valid_sf(sf: u8) -> bool
     ensures { λ r. ⌜ r ≡ validSf sf ⌝ }
 {
-    if sf < 7 {
-        false
-    } else {
-        sf <= 12
-    }
+    if sf < 7 { false } else { sf <= 12 }
 }
 
 pub fn valid_cr(cr: u8) -> bool
     ensures { λ r. ⌜ r ≡ validCr cr ⌝ }
 {
-    if cr < 1 {
-        false
-    } else {
-        cr <= 4
-    }
+    if cr < 1 { false } else { cr <= 4 }
 }
 
 fn rows_of_later(sf: u8, low: bool) -> usize
@@ -51,22 +43,30 @@ pub fn block_at(sf: u8, low: bool, cr: u8, b: usize) -> Block
 {
     let first_rows = bits::wide(sf) - 2;
     if b == 0 {
-        return Block { rate: 4, rows: first_rows, wide: true, base: 0, first: 0 };
+        return Block {
+            rate: 4,
+            rows: first_rows,
+            wide: true,
+            base: 0,
+            first: 0,
+        };
     }
     let rows = rows_of_later(sf, low);
     let later = b - 1;
-    Block { rate: cr, rows, wide: low, base: first_rows + rows * later, first: 8 + (bits::wide(cr) + 4) * later }
+    Block {
+        rate: cr,
+        rows,
+        wide: low,
+        base: first_rows + rows * later,
+        first: 8 + (bits::wide(cr) + 4) * later,
+    }
 }
 
 pub fn data_nibbles(length: usize, checksum: bool) -> usize
     requires { ⌜ length ≤ 255 ⌝ }
     ensures { λ r. ⌜ r ≡ dataNibbles length checksum ⌝ }
 {
-    if checksum {
-        2 * length + 4
-    } else {
-        2 * length
-    }
+    if checksum { 2 * length + 4 } else { 2 * length }
 }
 
 // How many blocks follow block 0.

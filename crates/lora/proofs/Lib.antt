@@ -1,2 +1,4 @@
 pub mod CountLaws
+pub mod HeadLaws
+pub mod ReadLaws
 pub mod TimeLaws

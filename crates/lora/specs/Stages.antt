@@ -37,7 +37,7 @@ pub record Decodable (s : Settings) (symbols : List ℕ) (len total : ℕ) : Typ
 
 -- the payload's bytes, said of an answer that has them
 abbrev pub Held : Received → Settings → List ℕ → List ℕ → Type 0
-Held (Payload len cr flag total repairs) s symbols payload = payload ≡ over len (byteHeard (s .sf) (s .low) (s .cr) symbols) (blank 255 0)
+Held (Payload len cr flag total repairs) s symbols payload = payload ≡ over len (byteHeard (s .sf) (s .low) cr symbols) (blank 255 0)
 Held (Refused number place) s symbols payload = Unit
 
 pub record Decoded (s : Settings) (symbols : List ℕ) (len : ℕ) (payload : List ℕ) (answer : Received) : Type 0 where

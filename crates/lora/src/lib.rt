@@ -36,21 +36,42 @@ pub enum Lasting {
 
 // The answer of head.
 pub enum Heading {
-    Says { length: usize, cr: u8, checksum: bool },
-    Refused { number: u8, place: usize },
+    Says {
+        length: usize,
+        cr: u8,
+        checksum: bool,
+    },
+    Refused {
+        number: u8,
+        place: usize,
+    },
 }
 
 // The answer of read.
 pub enum Received {
-    Payload { length: usize, cr: u8, checksum: bool, symbols: usize, repairs: usize },
-    Refused { number: u8, place: usize },
+    Payload {
+        length: usize,
+        cr: u8,
+        checksum: bool,
+        symbols: usize,
+        repairs: usize,
+    },
+    Refused {
+        number: u8,
+        place: usize,
+    },
 }
 
 fn symbols_of(s: Settings, length: usize) -> usize
     requires { ⌜ Valid (s .sf) (s .cr) × (length ≤ 255) ⌝ }
     ensures { λ r. ⌜ r ≡ symbolsOf s length ⌝ }
 {
-    layout::symbol_count(s.sf, s.low, s.cr, 5 + layout::data_nibbles(length, s.checksum))
+    layout::symbol_count(
+        s.sf,
+        s.low,
+        s.cr,
+        5 + layout::data_nibbles(length, s.checksum),
+    )
 }
 
 // How many symbols a frame with a payload of this length has.
@@ -58,15 +79,26 @@ pub fn count(s: Settings, length: usize) -> Counted
     ensures { λ r. ⌜ r ≡ countOf s length ⌝ }
 {
     if !layout::valid_sf(s.sf) {
-        return Counted::Refused { number: 1, place: 0 };
+        return Counted::Refused {
+            number: 1,
+            place: 0,
+        };
     }
     if !layout::valid_cr(s.cr) {
-        return Counted::Refused { number: 2, place: 0 };
+        return Counted::Refused {
+            number: 2,
+            place: 0,
+        };
     }
     if 255 < length {
-        return Counted::Refused { number: 3, place: 0 };
+        return Counted::Refused {
+            number: 3,
+            place: 0,
+        };
     }
-    Counted::Symbols { count: symbols_of(s, length) }
+    Counted::Symbols {
+        count: symbols_of(s, length),
+    }
 }
 
 // 2^SF, which every symbol is below.
@@ -105,9 +137,14 @@ pub fn airtime(s: Settings, length: usize, khz: u16, preamble: u16) -> Lasting
         Counted::Refused { number, place } => Lasting::Refused { number, place },
         Counted::Symbols { count } => {
             if !valid_bandwidth(khz) {
-                return Lasting::Refused { number: 13, place: 0 };
+                return Lasting::Refused {
+                    number: 13,
+                    place: 0,
+                };
             }
-            Lasting::Microseconds { time: microseconds(s.sf, preamble, count, khz) }
+            Lasting::Microseconds {
+                time: microseconds(s.sf, preamble, count, khz),
+            }
         }
     }
 }
@@ -138,7 +175,10 @@ pub fn code(s: Settings, payload: &[u8], out: &mut [u16]) -> Counted
         Counted::Refused { number, place } => Counted::Refused { number, place },
         Counted::Symbols { count } => {
             if out.len() < count {
-                return Counted::Refused { number: 4, place: count };
+                return Counted::Refused {
+                    number: 4,
+                    place: count,
+                };
             }
             send(s, payload, out);
             Counted::Symbols { count }
@@ -171,11 +211,22 @@ fn header_of(sf: u8, symbols: &[u16]) -> Heading
     let progress = reading::read_frame(sf, false, 1, symbols, 5, &mut nibbles);
     let end = progress.end;
     if end < 5 {
-        return Heading::Refused { number: 7, place: end };
+        return Heading::Refused {
+            number: 7,
+            place: end,
+        };
     }
     let verdict = header::judge([nibbles[0], nibbles[1], nibbles[2], nibbles[3], nibbles[4]]);
     match verdict {
-        Verdict::Says { length, cr, checksum } => Heading::Says { length, cr, checksum },
+        Verdict::Says {
+            length,
+            cr,
+            checksum,
+        } => Heading::Says {
+            length,
+            cr,
+            checksum,
+        },
         Verdict::Refused { number } => Heading::Refused { number, place: 0 },
     }
 }
@@ -185,14 +236,23 @@ pub fn head(sf: u8, symbols: &[u16]) -> Heading
     ensures { λ r. ⌜ r ≡ headOf sf (now (symbols .entry)) ⌝ }
 {
     if !layout::valid_sf(sf) {
-        return Heading::Refused { number: 1, place: 0 };
+        return Heading::Refused {
+            number: 1,
+            place: 0,
+        };
     }
     if symbols.len() < 8 {
-        return Heading::Refused { number: 5, place: 8 };
+        return Heading::Refused {
+            number: 5,
+            place: 8,
+        };
     }
     let over = first_over(sf, symbols, 0, 8);
     if over < 8 {
-        return Heading::Refused { number: 6, place: over };
+        return Heading::Refused {
+            number: 6,
+            place: over,
+        };
     }
     header_of(sf, symbols)
 }
@@ -236,13 +296,31 @@ fn decode(s: Settings, symbols: &[u16], len: usize, total: usize) -> Body
     let progress = reading::read_frame(s.sf, s.low, s.cr, symbols, n, &mut nibbles);
     let end = progress.end;
     if end < n {
-        return Body { payload: [0u8; 255], answer: Received::Refused { number: refusal_at(s, end), place: end } };
+        return Body {
+            payload: [0u8; 255],
+            answer: Received::Refused {
+                number: refusal_at(s, end),
+                place: end,
+            },
+        };
     }
     let payload = reading::payload_of_nibbles(&nibbles, len);
     if !sum_holds(s, len, payload, &nibbles) {
-        return Body { payload, answer: Received::Refused { number: 12, place: 0 } };
+        return Body {
+            payload,
+            answer: Received::Refused {
+                number: 12,
+                place: 0,
+            },
+        };
     }
-    let answer = Received::Payload { length: len, cr: s.cr, checksum: s.checksum, symbols: total, repairs: progress.repairs };
+    let answer = Received::Payload {
+        length: len,
+        cr: s.cr,
+        checksum: s.checksum,
+        symbols: total,
+        repairs: progress.repairs,
+    };
     Body { payload, answer }
 }
 
@@ -262,23 +340,44 @@ fn read_body(s: Settings, symbols: &[u16], len: usize, out: &mut [u8]) -> Receiv
 {
     let total = symbols_of(s, len);
     if out.len() < len {
-        return Received::Refused { number: 4, place: len };
+        return Received::Refused {
+            number: 4,
+            place: len,
+        };
     }
     if symbols.len() < total {
-        return Received::Refused { number: 5, place: total };
+        return Received::Refused {
+            number: 5,
+            place: total,
+        };
     }
     let over = first_over(s.sf, symbols, 8, total);
     if over < total {
-        return Received::Refused { number: 6, place: over };
+        return Received::Refused {
+            number: 6,
+            place: over,
+        };
     }
     let body = decode(s, symbols, len, total);
     let payload = body.payload;
     let answer = body.answer;
     match answer {
         Received::Refused { number, place } => Received::Refused { number, place },
-        Received::Payload { length, cr, checksum, symbols, repairs } => {
+        Received::Payload {
+            length,
+            cr,
+            checksum,
+            symbols,
+            repairs,
+        } => {
             copy(payload, length, out);
-            Received::Payload { length, cr, checksum, symbols, repairs }
+            Received::Payload {
+                length,
+                cr,
+                checksum,
+                symbols,
+                repairs,
+            }
         }
     }
 }
@@ -290,6 +389,20 @@ pub fn read(sf: u8, low: bool, symbols: &[u16], out: &mut [u8]) -> Received
     let heading = head(sf, symbols);
     match heading {
         Heading::Refused { number, place } => Received::Refused { number, place },
-        Heading::Says { length, cr, checksum } => read_body(Settings { sf, low, cr, checksum }, symbols, length, out),
+        Heading::Says {
+            length,
+            cr,
+            checksum,
+        } => read_body(
+            Settings {
+                sf,
+                low,
+                cr,
+                checksum,
+            },
+            symbols,
+            length,
+            out,
+        ),
     }
 }

@@ -49,7 +49,7 @@ module _ (fatal : ℕ → Bool) (s : Settings) (payload arrived old new : List �
       let says = reading .answer ∙ read-whole s payload arrived p enough below good all (length old) fits in
       record {
         says = rw repairs at says;
-        cells = reading .cells ∙ ap (λ (r : Received). bytesAfter r (s .sf) (s .low) arrived old) says ∙ cells-are s payload arrived p enough below good all old
+        cells = reading .cells ∙ ap (λ (r : Received). bytesAfter r (s .sf) (s .low) arrived old) says ∙ cells-are s payload arrived p enough below good all old;
       }
 
   refused : (i : ℕ) → i < readWords s payload → fatal i ≡ true → ((k : ℕ) → k < i → fatal k ≡ false) → (answer ≡ Refused 7 i) × (new ≡ old)

@@ -2,3 +2,8 @@ pub mod Near
 pub mod Back
 pub mod Outcome
 pub mod Answers
+pub mod Demand3
+pub mod Demand2
+pub mod Determined
+pub mod Small
+pub mod Examples

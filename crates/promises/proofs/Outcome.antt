@@ -40,7 +40,7 @@ module _ (s : Settings) (payload arrived : List ℕ) (p : Sent s payload)
     (enough : symbolsOf s (length payload) ≤ length arrived)
     (below : (t : ℕ) → t < symbolsOf s (length payload) → getD arrived t 0 < 2 ^ (s .sf))
     (good : (i : ℕ) → i < readWords s payload → badAt (heardAt (s .sf) (s .low) (s .cr) arrived) i ≡ false
-        → nibbleAt (heardAt (s .sf) (s .low) (s .cr) arrived) i ≡ sentNibble s payload i) where
+    → nibbleAt (heardAt (s .sf) (s .low) (s .cr) arrived) i ≡ sentNibble s payload i) where
   -- the first codeword that can't be read
   abbrev bad : ℕ
   bad = first (badAt (heardAt (s .sf) (s .low) (s .cr) arrived)) (readWords s payload) 0

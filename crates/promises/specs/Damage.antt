@@ -13,8 +13,11 @@ use Rattle.coding.specs.Nibbles.{frameNibble}
 use Rattle.header.specs.Header.{headerNibbles}
 use Rattle.layout.specs.Layout.{blockOf, blockOfCodeword, laterBlocks}
 use Rattle.layout.specs.declared.Block.{Block}
+use Rattle.lora.specs.Code.{Coding}
 use Rattle.lora.specs.Count.{nibblesOf}
+use Rattle.lora.specs.Read.{Reading}
 use Rattle.lora.specs.declared.Settings.{Settings}
+use Rattle.lora.specs.declared.Counted.the-variants.{Symbols}
 use Rattle.lora.specs.declared.Received.{Received}
 use Rattle.lora.specs.declared.Received.the-variants.{Payload, Refused}
 use Rattle.reading.specs.Heard.{wordInBlock}
@@ -60,6 +63,14 @@ pub record Changed (k : ℕ) (s : Settings) (payload sent : List ℕ) (count : �
   pub enough : count ≤ length arrived
   pub below : (t : ℕ) → t < count → getD arrived t 0 < 2 ^ (s .sf)
   pub few : (b : ℕ) → b ≤ laterBlocks (s .sf) (s .low) (readWords s payload) → changedSymbols s sent arrived b ≤ k
+
+-- a payload was coded, at most k symbols were changed in each block, and what arrived was read into enough room
+pub record Passed (k : ℕ) (s : Settings) (payload old sent : List ℕ) (count : ℕ) (arrived buffer buffer′ : List ℕ) (answer : Received) : Type 0 where
+  pub bytes : Bytes payload
+  pub coded : Coding s payload old sent (Symbols count)
+  pub changed : Changed k s payload sent count arrived
+  pub room : length payload ≤ length buffer
+  pub read : Reading (s .sf) (s .low) arrived buffer buffer′ answer
 
 -- codeword i has a changed bit; it has one and stands after block 0; it has two
 unfoldable pub hurt : Settings → List ℕ → List ℕ → ℕ → Bool

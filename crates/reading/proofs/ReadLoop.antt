@@ -29,10 +29,12 @@ pub record Clear (h : ℕ → Heard) (m repairs : ℕ) : Type 0 where
   pub good : (k : ℕ) → k < m → badAt h k ≡ false
   pub counts : repairs ≡ howMany (mendedAt h) m
 
+-- no codeword has been read
 pub clear-none : (h : ℕ → Heard) → Clear h 0 0
 unfolding howMany
 clear-none h = record { good = λ k l. absurd (omega arith); counts = refl }
 
+-- one codeword more
 pub clear-more : {h : ℕ → Heard} {m repairs x : ℕ} → Clear h m repairs → badAt h m ≡ false → x ≡ asBit (mendedAt h m) → Clear h (m + 1) (repairs + x)
 clear-more {h} {m} {repairs} {x} p b q =
     record { good = λ k l. at k l (ℕ-discrete k m); counts = howMany-more (mendedAt h) m (p .counts) q }
@@ -66,6 +68,7 @@ pub walk-clear : {h : ℕ → Heard} {n at end repairs : ℕ} {old new : List �
 walk-clear {h} {n} p =
     record { good = λ k l. first-before (badAt h) n 0 k (omega arith) (rw (p .ends) at l); counts = p .counts }
 
+-- a run ends at most behind its last codeword
 pub walk-range : {h : ℕ → Heard} {n at end repairs : ℕ} {old new : List ℕ} → Walk h n at old new end repairs → end ≤ n
 walk-range {h} {n} p = omega (arith, p .ends, first-range (badAt h) n 0)
 
@@ -73,10 +76,11 @@ walk-range {h} {n} p = omega (arith, p .ends, first-range (badAt h) n 0)
 pub walk-le : {h : ℕ → Heard} {n at end repairs : ℕ} {old new : List ℕ} → Walk h n at old new end repairs → repairs ≤ n
 walk-le p = omega (arith, clear-le (walk-clear p), walk-range p)
 
+-- where a run ends early its end can't be read
 pub walk-bad : {h : ℕ → Heard} {n at end repairs : ℕ} {old new : List ℕ} → Walk h n at old new end repairs → end < n → badAt h end ≡ true
 walk-bad {h} {n} p l = rw (p .ends) (first-found (badAt h) n 0 (omega (arith, p .ends)))
 
--- a run ends at a codeword that can't be read, or behind the last
+-- a run ends at a codeword that can't be read
 pub walk-stop : {h : ℕ → Heard} {n at i repairs : ℕ} {old new : List ℕ} → Clear h i repairs → FilledAt (nibbleAt h) old at i new → i < n
     → badAt h i ≡ true → Walk h n at old new i repairs
 walk-stop {h} {n} {at} {i} p f l b =
@@ -86,6 +90,7 @@ walk-stop {h} {n} {at} {i} p f l b =
       cells = f .is;
     }
 
+-- a run whose codewords can all be read ends behind the last
 pub walk-end : {h : ℕ → Heard} {n at repairs : ℕ} {old new : List ℕ} → Clear h n repairs → FilledAt (nibbleAt h) old at n new
     → Walk h n at old new n repairs
 walk-end {h} {n} p f =
@@ -103,6 +108,7 @@ filled-at-start {f} {d} {l} {n} p = record { is = rw zero-add (p .is); long = p 
 abbrev pub smaller : ℕ → ℕ → ℕ
 smaller a b = pick (ltb a b) a b
 
+-- it is at most either
 pub smaller-le : (a b : ℕ) → (smaller a b ≤ a) × (smaller a b ≤ b)
 smaller-le a b = at (ltb a b) refl
   where
@@ -110,6 +116,7 @@ smaller-le a b = at (ltb a b) refl
     at true e = let h : a < b = ltb-true a b e in omega arith
     at false e = let h : b ≤ a = ltb-false a b e in omega arith
 
+-- which of the two it is
 pub smaller-first : (a b : ℕ) → a ≤ b → smaller a b ≡ a
 smaller-first a b h = at (ltb a b) refl
   where
@@ -131,6 +138,7 @@ smaller-on n base rows h = at (ltb rows (n - base)) refl
         let s : base + (n - base) ≡ n = omega arith in
         s ∙ sym (smaller-second (base + rows) n (omega arith))
 
+-- those rows are the block's and stand below n
 pub smaller-fits : (n base rows : ℕ) {m : ℕ} → m ≡ smaller rows (n - base) → base < n → (m ≤ rows) × (base + m ≤ n)
 smaller-fits n base rows is below = omega (arith, is, smaller-le rows (n - base))
 
@@ -139,17 +147,21 @@ pub record Frame (h : ℕ → Heard) (n base : ℕ) (old new : List ℕ) (repair
   pub clear : Clear h (smaller base n) repairs
   pub cells : Filled (nibbleAt h) old (smaller base n) new
 
+-- before the first block nothing has been read
 pub frame-none : (h : ℕ → Heard) (n : ℕ) (old : List ℕ) → Frame h n 0 old old 0
 frame-none h n old =
     let z : smaller 0 n ≡ 0 = smaller-first 0 n (omega arith) in
     record { clear = rw z (clear-none h); cells = rw z (filled-none (nibbleAt h) old) }
 
+-- there are no more repairs than codewords
 pub frame-le : {h : ℕ → Heard} {n base repairs : ℕ} {old new : List ℕ} → Frame h n base old new repairs → repairs ≤ n
 frame-le {h} {n} {base} p = omega (arith, clear-le (p .clear), smaller-le base n)
 
+-- the list keeps its length
 pub frame-long : {h : ℕ → Heard} {n base repairs : ℕ} {old new : List ℕ} → Frame h n base old new repairs → length new ≡ length old
 frame-long p = p .cells .long
 
+-- behind the last codeword the frame has been read
 pub frame-end : {h : ℕ → Heard} {n base repairs : ℕ} {old new : List ℕ} → Frame h n base old new repairs → n ≤ base → Walk h n 0 old new n repairs
 frame-end {h} {n} {base} p l =
     let e : smaller base n ≡ n = smaller-second base n l in
@@ -168,12 +180,14 @@ module _ {h g : ℕ → Heard} {n base m end r s : ℕ} {old mid new : List ℕ}
   on-cells =
       filled-on (rw here at (p .cells)) (omega (arith, walk-range w, smaller-fits n base rows is below)) (w .cells) (λ i l. ap nibbleOf (same i (omega (arith, walk-range w))))
 
+  -- all its rows were read
   pub frame-more : m ≤ end → Frame h n (base + rows) old new (r + s)
   frame-more l =
       let e : end ≡ m = omega (arith, walk-range w) in
       let q : base + end ≡ smaller (base + rows) n = rw (e, is) (smaller-on n base rows below) in
       record { clear = rw q at on-clear; cells = rw q at on-cells }
 
+  -- one of its rows can't be read
   pub frame-stop : end < m → Walk h n 0 old new (base + end) (r + s)
   frame-stop l =
       walk-stop on-clear (filled-at-start on-cells) (omega (arith, smaller-fits n base rows is below)) (ap isUnreadable (sym (same end l)) ∙ walk-bad w l)

@@ -17,12 +17,14 @@ pub struct Progress {
     pub repairs: usize,
 }
 
+// The smaller of the two.
 fn least(a: usize, b: usize) -> usize
     ensures { λ r. ⌜ r ≡ pick (ltb a b) a b ⌝ }
 {
     if a < b { a } else { b }
 }
 
+// The symbol words received in a block's columns.
 fn words_of_block(b: Block, symbols: &[u16]) -> [u16; 8]
     requires { ⌜ Fits b × (b .first + (4 + b .rate) ≤ length (now symbols)) ⌝ }
     ensures { λ r. ⌜ r ≡ over (4 + b .rate) (symbolWord b (now (symbols .entry))) (blank 8 0) ⌝ }

@@ -1,42 +1,57 @@
+use mathlib.Core.Path.{refl, sym, _∙_}
+use borrow.Author.Tests.{lt-leb, le-leb}
+use lib.ListN.{length}
+use Rattle.lora.specs.Code.{codeOf}
+use Rattle.lora.proofs.CountLaws.{Countable, counted}
 use borrow.Author.Needs.{needs}
 use Rattle.lora.proofs.code.Statement.{statement}
 use Rattle.lora.proofs.code.Tie as tie
-use Rattle.lora.proofs.code.Reads as reads
-use Rattle.lora.proofs.code.Lts as lts
-use Rattle.lora.proofs.count.Reads as count-reads
-use Rattle.lora.proofs.send.Reads as send-reads
 
--- src/lib.rt:136:9
+-- what count has answered
+countable : (c : tie.After-counted2) → let a = c .before .before .before .before .before .args in Countable (a .s) (length (a .payload .now)) (c .counted2 .given .0 .0)
+countable c = counted _ _ _ (sym (c .before .before .count .ensures) ∙ c .counted2 .given .1)
+
 count-requires : tie.Need-count-requires
 count-requires c κs = search needs
 
--- src/lib.rt:138:28
 enum-known-counted : tie.Need-enum-known-counted
 enum-known-counted c = search needs
 
--- src/lib.rt:139:28
 enum-known-counted-2 : tie.Need-enum-known-counted-2
 enum-known-counted-2 c = search needs
 
--- src/lib.rt:141:17
 returns : tie.Need-returns
-returns c = ?
+unfolding codeOf
+returns c =
+    record {
+      answer = rw (sym (c .before .before .before .before .count .ensures) ∙ c .before .before .counted2 .given .1, lt-leb _ _ (c .if1 .taken));
+      cells = refl;
+    }
 
--- src/lib.rt:143:13
 send-requires : tie.Need-send-requires
-send-requires c κs = ?
+send-requires c κs =
+    let k = countable (c .before .before .before) in
+    (k .settings, k .short, rw (← k .is) (search needs))
 
--- src/lib.rt:133:1
 returns-2 : tie.Need-returns-2
-returns-2 c = ?
+unfolding codeOf
+returns-2 c =
+    record {
+      answer = rw (sym (c .before .before .before .count .ensures) ∙ c .before .counted .given .1);
+      cells = refl;
+    }
 
--- src/lib.rt:133:1
 same-length : tie.Need-same-length
 same-length c = search needs
 
--- src/lib.rt:133:1
 returns-3 : tie.Need-returns-3
-returns-3 c = ?
+unfolding codeOf
+returns-3 c =
+    let k = countable (c .before .before .before .before .before .before) in
+    record {
+      answer = rw (sym (c .before .before .before .before .before .before .before .before .count .ensures) ∙ c .before .before .before .before .before .before .counted2 .given .1, le-leb _ _ (c .before .before .before .before .if1 .left));
+      cells = rw (k .is) (c .before .before .send .ensures);
+    }
 
 pub code-spec : {M : Type 1} → statement M
 code-spec =

@@ -1,31 +1,30 @@
+use native.Mathlib.Omega.{arith}
+use Rattle.coding.specs.Nibbles.{frameNibble}
+use Rattle.header.proofs.HeaderLaws.{header-nibble-lt}
+use Rattle.lora.specs.Count.{nibblesOf, symbolsOf}
+use Rattle.lora.specs.Code.{sentSymbol}
 use borrow.Author.Needs.{needs}
 use Rattle.lora.proofs.send.Statement.{statement}
 use Rattle.lora.proofs.send.Tie as tie
-use Rattle.lora.proofs.send.Reads as reads
-use Rattle.lora.proofs.send.Lts as lts
-use Rattle.checksum.proofs.checksum.Reads as checksum-reads
-use Rattle.coding.proofs.write_frame.Reads as write-frame-reads
-use Rattle.lora.proofs.header_of_payload.Reads as header-of-payload-reads
 
--- src/lib.rt:127:9
 header-of-payload-requires : tie.Need-header-of-payload-requires
 header-of-payload-requires c κs = search needs
 
--- src/lib.rt:128:9
 checksum-requires : tie.Need-checksum-requires
 checksum-requires c κs = search needs
 
--- src/lib.rt:129:5
 write-frame-requires : tie.Need-write-frame-requires
-write-frame-requires c κs = ?
+unfolding symbolsOf nibblesOf
+write-frame-requires c κs =
+    let p = c .before .before .before .before .before .pre in
+    (p .0, record { nibbles = rw (c .before .before .header-of-payload .ensures) (header-nibble-lt _ _ _ (omega arith) (p .0 .cr-high)); short = p .1 }, p .2)
 
--- src/lib.rt:123:1
 same-length : tie.Need-same-length
 same-length c = search needs
 
--- src/lib.rt:123:1
 returns : tie.Need-returns
-returns c = ?
+unfolding symbolsOf nibblesOf sentSymbol frameNibble
+returns c = rw (← c .before .before .before .before .before .header-of-payload .ensures, ← c .before .before .before .before .checksum .ensures) (c .before .before .write-frame .ensures)
 
 pub send-spec : {M : Type 1} → statement M
 send-spec =

@@ -1,0 +1,104 @@
+-- Smaller promises that users rely on.
+-- Assumes nothing.
+use mathlib.Core.Path.{_≡_, refl, sym, ap, _∙_}
+use mathlib.Core.Bool.{Bool, true, false}
+use mathlib.Core.List.{List}
+use Prim.Native.Nat.{ℕ, zero, suc, _+_, _-_, _*_, _/_, _%_, _^_, _≤_, _<_}
+use native.Mathlib.Nat.{div-add-mod'}
+use native.Mathlib.Omega.{arith}
+use lib.Dec.{leb}
+use lib.ListN.{length, getD}
+use Rattle.bits.specs.Pick.{pick, check}
+use Rattle.layout.specs.Layout.{validSf, validCr, rowsOfFirst, rowsOfLater, dataNibbles, remaining, laterBlocks, symbolCount}
+use Rattle.lora.specs.Airtime.{validBandwidth, dividend, microseconds, lasting, airtimeOf}
+use Rattle.lora.specs.Code.{fitting, codeOf, Coding}
+use Rattle.lora.specs.Count.{nibblesOf, symbolsOf, countOf}
+use Rattle.lora.specs.Head.{firstOver, headOf}
+use Rattle.lora.specs.Read.{totalOf, badInData, sumHolds, refusalAt, repairsOf, bodyOf, dataOf, onward, readOf}
+use Rattle.lora.specs.declared.Settings.{Settings}
+use Rattle.lora.specs.declared.Counted.{Counted}
+use Rattle.lora.specs.declared.Counted.the-variants.{Symbols, Refused as CountRefused}
+use Rattle.lora.specs.declared.Lasting.the-variants.{Microseconds, Refused as TimeRefused}
+use Rattle.lora.specs.declared.Heading.{Heading}
+use Rattle.lora.specs.declared.Heading.the-variants.{Says, Refused as HeadRefused}
+use Rattle.lora.specs.declared.Received.{Received}
+use Rattle.lora.specs.declared.Received.the-variants.{Payload, Refused}
+use Rattle.lora.proofs.CountLaws.{counted, coded, symbols-le}
+use Rattle.lora.proofs.TimeLaws.{whole}
+
+-- the count that code answers is what count answers
+pub code-counts : (s : Settings) (payload old new : List ℕ) (count : ℕ) → Coding s payload old new (Symbols count) → countOf s (length payload) ≡ Symbols count
+unfolding codeOf
+code-counts s payload old new count c = one (countOf s (length payload)) (sym (c .answer))
+  where
+    two : (n : ℕ) (t : Bool) → check t (CountRefused 4 n) (Symbols n) ≡ Symbols count → _≡_ {A = Counted} (Symbols n) (Symbols count)
+    two n true e = e
+    two n false e = absurd (let z : _≡_ {A = ℕ} 0 1 = cc in omega arith)
+
+    one : (r : Counted) → fitting r (length old) ≡ Symbols count → r ≡ Symbols count
+    one (CountRefused n p) e = e
+    one (Symbols n) e = two n (leb n (length old)) e
+
+-- never more than 832 symbols, and as many at SF 7, low rate, CR 4, 255 bytes, checksum on
+pub count-most : (s : Settings) (len count : ℕ) → countOf s len ≡ Symbols count → count ≤ 832
+count-most s len count e =
+    let k = counted s len count e in
+    rw (k .is) (symbols-le s len (k .settings) (k .short))
+
+pub largest : countOf (record { sf = 7; low = true; cr = 4; checksum = true }) 255 ≡ Symbols 832
+unfolding countOf validSf validCr symbolsOf nibblesOf dataNibbles symbolCount laterBlocks remaining rowsOfFirst rowsOfLater
+largest = refl
+
+-- airtime divides without remainder: the time answered, times the bandwidth, is the dividend
+pub airtime-whole : (s : Settings) (len khz n time : ℕ) → airtimeOf s len khz n ≡ Microseconds time → time * khz ≡ dividend (s .sf) n (symbolsOf s len)
+unfolding airtimeOf microseconds
+airtime-whole s len khz n time e = one (countOf s len) refl e
+  where
+    two : (count : ℕ) → countOf s len ≡ Symbols count → (t : Bool) → validBandwidth khz ≡ t
+        → check t (TimeRefused 13 0) (Microseconds (dividend (s .sf) n count / khz)) ≡ Microseconds time → time * khz ≡ dividend (s .sf) n (symbolsOf s len)
+    two count f false g h = absurd (let z : _≡_ {A = ℕ} 0 1 = cc in omega arith)
+    two count f true g h =
+        let k = counted s len count f in
+        let same : dividend (s .sf) n count / khz ≡ time = cc in
+        let exact = whole (s .sf) n count khz (k .settings .sf-low) g in
+        rw (← same, ← k .is) (omega (arith, div-add-mod' (dividend (s .sf) n count) khz, exact))
+
+    one : (r : Counted) → countOf s len ≡ r → lasting r s khz n ≡ Microseconds time → time * khz ≡ dividend (s .sf) n (symbolsOf s len)
+    one (CountRefused a b) f g = absurd (let z : _≡_ {A = ℕ} 0 1 = cc in omega arith)
+    one (Symbols count) f g = two count f (validBandwidth khz) refl g
+
+-- what the body's checks leave of length, CR and flag
+body-keeps : (sf : ℕ) (low : Bool) (symbols : List ℕ) (room a b : ℕ) (c : Bool) (len cr : ℕ) (flag : Bool) (total repairs : ℕ)
+    → bodyOf sf low symbols room a b c ≡ Payload len cr flag total repairs → _≡_ {A = Heading} (Says a b c) (Says len cr flag)
+unfolding bodyOf dataOf
+body-keeps sf low symbols room a b c len cr flag total repairs e =
+    let whole : ℕ = totalOf sf low b a c in
+    let over : ℕ = firstOver sf symbols (whole - 8) 8 in
+    let bad : ℕ = badInData sf low b symbols a c in
+    keeps (leb a room) (leb whole (length symbols)) (leb whole over) (leb (nibblesOf a c) bad) (sumHolds sf low b symbols a c)
+    whole over whole (refusalAt sf low b bad) bad (repairsOf sf low b symbols a c) e
+  where
+    keeps : (t u v w x : Bool) (p q r n m k : ℕ)
+        → check t (Refused 4 a) (check u (Refused 5 p) (check v (Refused 6 q) (check w (Refused n m) (check x (Refused 12 0) (Payload a b c r k))))) ≡ Payload len cr flag total repairs
+        → _≡_ {A = Heading} (Says a b c) (Says len cr flag)
+    keeps true true true true true p q r n m k f = cc
+    keeps true true true true false p q r n m k f = absurd (let z : _≡_ {A = ℕ} 0 1 = cc in omega arith)
+    keeps true true true false x p q r n m k f = absurd (let z : _≡_ {A = ℕ} 0 1 = cc in omega arith)
+    keeps true true false w x p q r n m k f = absurd (let z : _≡_ {A = ℕ} 0 1 = cc in omega arith)
+    keeps true false v w x p q r n m k f = absurd (let z : _≡_ {A = ℕ} 0 1 = cc in omega arith)
+    keeps false u v w x p q r n m k f = absurd (let z : _≡_ {A = ℕ} 0 1 = cc in omega arith)
+
+-- head says what read says
+pub head-agrees : (sf : ℕ) (low : Bool) (symbols : List ℕ) (room len cr : ℕ) (flag : Bool) (total repairs : ℕ)
+    → readOf sf low symbols room ≡ Payload len cr flag total repairs → headOf sf symbols ≡ Says len cr flag
+unfolding readOf
+head-agrees sf low symbols room len cr flag total repairs e = one (headOf sf symbols) e
+  where
+    one : (h : Heading) → onward h sf low symbols room ≡ Payload len cr flag total repairs → h ≡ Says len cr flag
+    one (HeadRefused a b) f = absurd (let z : _≡_ {A = ℕ} 0 1 = cc in omega arith)
+    one (Says a b c) f = body-keeps sf low symbols room a b c len cr flag total repairs f
+
+-- and where head refuses, read refuses likewise
+pub head-refuses : (sf : ℕ) (low : Bool) (symbols : List ℕ) (room number place : ℕ) → headOf sf symbols ≡ HeadRefused number place → readOf sf low symbols room ≡ Refused number place
+unfolding readOf
+head-refuses sf low symbols room number place e = rw e
