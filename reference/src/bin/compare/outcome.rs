@@ -1,0 +1,197 @@
+//! What an operation answers and leaves behind in every cell around it.
+
+use crate::case::{Case, Operation};
+use reference::random::Random;
+use reference::types::{Code, Header, Read, Refusal, Settings};
+use reference::{abi, plain, safe};
+
+/// Cells on both sides of a lent array, which nobody may touch.
+const MARGIN: usize = 8;
+
+/// The three arrays an operation may write to, margins included.
+#[derive(Clone, Debug, PartialEq)]
+struct Cells {
+    answer: Vec<u64>,
+    symbols: Vec<u16>,
+    bytes: Vec<u8>,
+}
+
+impl Cells {
+    /// Random cells: a value that happens to be right would hide a write.
+    fn new(case: &Case, random: &mut Random) -> Cells {
+        let with_margins = |cells| cells + 2 * MARGIN;
+        Cells {
+            answer: (0..with_margins(case.answer_len))
+                .map(|_| random.number())
+                .collect(),
+            symbols: (0..with_margins(case.out_len))
+                .map(|_| random.number() as u16)
+                .collect(),
+            bytes: random.bytes(with_margins(case.out_len)),
+        }
+    }
+}
+
+fn lent<T>(cells: &mut [T]) -> &mut [T] {
+    let end = cells.len() - MARGIN;
+    &mut cells[MARGIN..end]
+}
+
+/// The operations of one implementation.
+struct Operations {
+    code: Code,
+    read: Read,
+    head: fn(u8, &[u16]) -> Result<Header, Refusal>,
+    count: fn(&Settings, usize) -> Result<usize, Refusal>,
+    airtime: fn(&Settings, usize, u16, u16) -> Result<u64, Refusal>,
+}
+
+const PLAIN: Operations = Operations {
+    code: plain::code,
+    read: plain::read,
+    head: plain::head,
+    count: plain::count,
+    airtime: plain::airtime,
+};
+
+const SAFE: Operations = Operations {
+    code: safe::code,
+    read: safe::read,
+    head: safe::head,
+    count: safe::count,
+    airtime: safe::airtime,
+};
+
+/// Where the library, bare or through `safe`, differs from `plain`, if it does.
+pub fn difference(case: &Case, random: &mut Random) -> Option<String> {
+    let before = Cells::new(case, random);
+    let wanted = told(&PLAIN, case, before.clone());
+    let (payload, symbols) = (case.payload.clone(), case.symbols.clone());
+    let library = bare(case, before.clone());
+    let through_safe = told(&SAFE, case, before.clone());
+    if (&payload, &symbols) != (&case.payload, &case.symbols) {
+        return Some("the library changed its input".to_string());
+    }
+    for (name, got) in [("library", library), ("safe", through_safe)] {
+        if got != wanted {
+            return Some(format!(
+                "before {before:?}\nplain  {wanted:?}\n{name} {got:?}"
+            ));
+        }
+    }
+    None
+}
+
+/// An implementation's answer, put into cells as the C interface puts it.
+fn told(operations: &Operations, case: &Case, mut cells: Cells) -> (u8, Cells) {
+    let Case {
+        settings,
+        length,
+        khz,
+        preamble,
+        ..
+    } = *case;
+    let needs = match case.operation {
+        Operation::Code | Operation::Count | Operation::Airtime => abi::NUMBER_CELLS,
+        Operation::Head => abi::HEAD_CELLS,
+        Operation::Read => abi::READ_CELLS,
+    };
+    if case.answer_len < needs {
+        return (abi::SHORT_ANSWER, cells);
+    }
+    let result = match case.operation {
+        Operation::Code => (operations.code)(&settings, &case.payload, lent(&mut cells.symbols))
+            .map(|symbols| vec![symbols as u64]),
+        Operation::Read => (operations.read)(
+            settings.sf,
+            settings.low,
+            &case.symbols,
+            lent(&mut cells.bytes),
+        )
+        .map(|received| {
+            let mut fields = header_fields(&received.header);
+            fields.extend([received.symbols as u64, received.repairs as u64]);
+            fields
+        }),
+        Operation::Head => {
+            (operations.head)(settings.sf, &case.symbols).map(|header| header_fields(&header))
+        }
+        Operation::Count => {
+            (operations.count)(&settings, length).map(|symbols| vec![symbols as u64])
+        }
+        Operation::Airtime => {
+            (operations.airtime)(&settings, length, khz, preamble).map(|time| vec![time])
+        }
+    };
+    let (number, fields) = match result {
+        Ok(fields) => (0, fields),
+        Err(Refusal { number, place }) => (number, vec![place as u64]),
+    };
+    lent(&mut cells.answer)[..fields.len()].copy_from_slice(&fields);
+    (number, cells)
+}
+
+fn header_fields(header: &Header) -> Vec<u64> {
+    vec![
+        header.length as u64,
+        header.cr.into(),
+        header.checksum.into(),
+    ]
+}
+
+/// The library's answer through its C interface.
+fn bare(case: &Case, mut cells: Cells) -> (u8, Cells) {
+    let Case {
+        low,
+        checksum,
+        length,
+        khz,
+        preamble,
+        ref payload,
+        ref symbols,
+        ..
+    } = *case;
+    let Settings { sf, cr, .. } = case.settings;
+    let out = lent(&mut cells.symbols);
+    let (out, out_len) = (out.as_mut_ptr(), out.len());
+    let bytes = lent(&mut cells.bytes);
+    let (bytes, bytes_len) = (bytes.as_mut_ptr(), bytes.len());
+    let answer = lent(&mut cells.answer);
+    let (answer, answer_len) = (answer.as_mut_ptr(), answer.len());
+    let (payload, payload_len) = (payload.as_ptr(), payload.len());
+    let (symbols, symbols_len) = (symbols.as_ptr(), symbols.len());
+    // SAFETY: each pointer and length is those of one live slice, and the
+    // slices don't overlap.
+    let returned = unsafe {
+        match case.operation {
+            Operation::Code => abi::lora_code(
+                sf,
+                low,
+                cr,
+                checksum,
+                payload,
+                payload_len,
+                out,
+                out_len,
+                answer,
+                answer_len,
+            ),
+            Operation::Read => abi::lora_read(
+                sf,
+                low,
+                symbols,
+                symbols_len,
+                bytes,
+                bytes_len,
+                answer,
+                answer_len,
+            ),
+            Operation::Head => abi::lora_head(sf, symbols, symbols_len, answer, answer_len),
+            Operation::Count => abi::lora_count(sf, low, cr, checksum, length, answer, answer_len),
+            Operation::Airtime => abi::lora_airtime(
+                sf, low, cr, checksum, length, khz, preamble, answer, answer_len,
+            ),
+        }
+    };
+    (returned, cells)
+}

@@ -1,0 +1,19 @@
+//! An independent implementation of document 01, and the means to hold the
+//! product against it. No code is shared with the product.
+
+pub mod cases;
+pub mod plain;
+pub mod random;
+pub mod text;
+pub mod tuned;
+pub mod types;
+
+#[cfg(linked)]
+pub mod abi;
+#[cfg(linked)]
+pub mod safe;
+
+/// The most symbols a frame can have.
+pub const MOST_SYMBOLS: usize = 832;
+/// The most bytes a payload can have.
+pub const MOST_BYTES: usize = 255;

@@ -1,0 +1,351 @@
+//! `code` and `read` written for speed: tables and word operations, no grid of
+//! bits and no allocation. The tests hold it against `plain`.
+//!
+//! A block is held as eight lanes of 16 bits in one 128-bit word: lane j is
+//! column j of the block, its bit r is bit j of codeword r. The diagonal is
+//! then a rotation of lane j by j places among N.
+
+mod tables;
+
+use crate::types::{refuse, Header, Received, Refusal, Settings};
+use crate::MOST_BYTES;
+use tables::{CHECKS, READING, REMAINDERS, REPAIRED, SPREAD, UNREADABLE, WHITENING};
+
+/// The most data nibbles a frame can have: the payload's and the checksum's.
+const MOST_NIBBLES: usize = 2 * MOST_BYTES + 4;
+/// `plain::code`.
+pub fn code(settings: &Settings, payload: &[u8], out: &mut [u16]) -> Result<usize, Refusal> {
+    let Settings {
+        sf,
+        low,
+        cr,
+        checksum,
+    } = *settings;
+    if !(7..=12).contains(&sf) {
+        return refuse(1, 0);
+    }
+    if !(1..=4).contains(&cr) {
+        return refuse(2, 0);
+    }
+    if payload.len() > MOST_BYTES {
+        return refuse(3, 0);
+    }
+    let shape = Shape::new(settings, payload.len());
+    if out.len() < shape.symbols {
+        return refuse(4, shape.symbols);
+    }
+
+    let mut nibbles = [0; 5 + MOST_NIBBLES];
+    let header = payload.len() << 4 | usize::from(cr) << 1 | usize::from(checksum);
+    let checks = CHECKS[header];
+    nibbles[0] = (header >> 8) as u8;
+    nibbles[1] = (header >> 4) as u8 & 15;
+    nibbles[2] = header as u8 & 15;
+    nibbles[3] = checks >> 4;
+    nibbles[4] = checks & 15;
+    let (places, _) = nibbles[5..].as_chunks_mut::<2>();
+    for ((place, byte), white) in places.iter_mut().zip(payload).zip(&WHITENING) {
+        *place = halves(byte ^ white);
+    }
+    if checksum {
+        let [low_byte, high_byte] = remainder(payload).to_le_bytes();
+        places[payload.len()] = halves(low_byte);
+        places[payload.len() + 1] = halves(high_byte);
+    }
+
+    let nibbles = &nibbles[..5 + shape.nibbles];
+    let first = usize::from(sf) - 2;
+    let (in_first, in_later) = nibbles.split_at(first.min(nibbles.len()));
+    let (first_out, later_out) = out[..shape.symbols].split_at_mut(8);
+    code_block::<8>(in_first, first, 2, first_out);
+    let shift = if low { 2 } else { 0 };
+    let code_later = [
+        code_block::<5>,
+        code_block::<6>,
+        code_block::<7>,
+        code_block::<8>,
+    ][usize::from(cr) - 1];
+    let blocks = in_later
+        .chunks(shape.rows)
+        .zip(later_out.chunks_exact_mut(shape.width));
+    for (block, block_out) in blocks {
+        code_later(block, shape.rows, shift, block_out);
+    }
+    Ok(shape.symbols)
+}
+
+/// `plain::read`.
+pub fn read(sf: u8, low: bool, symbols: &[u16], out: &mut [u8]) -> Result<Received, Refusal> {
+    if !(7..=12).contains(&sf) {
+        return refuse(1, 0);
+    }
+    if symbols.len() < 8 {
+        return refuse(5, 8);
+    }
+    check_range(sf, symbols, 0, 8)?;
+    let first = usize::from(sf) - 2;
+    let lanes = lanes_of::<8>(symbols, first, 2);
+    let mut head = [0; 5];
+    let mut repairs = read_words(lanes, 4, 0, &mut head).or_else(|i| refuse(7, i))?;
+    let header = header(head)?;
+    let Header {
+        length,
+        cr,
+        checksum,
+    } = header;
+    if out.len() < length {
+        return refuse(4, length);
+    }
+    let shape = Shape::new(
+        &Settings {
+            sf,
+            low,
+            cr,
+            checksum,
+        },
+        length,
+    );
+    if symbols.len() < shape.symbols {
+        return refuse(5, shape.symbols);
+    }
+    check_range(sf, symbols, 8, shape.symbols)?;
+
+    let mut nibbles = [0; MOST_NIBBLES];
+    let data = &mut nibbles[..shape.nibbles];
+    let (in_first, in_later) = data.split_at_mut((first - 5).min(shape.nibbles));
+    repairs += read_words(lanes, 4, 5, in_first).or_else(|i| refuse(7, 5 + i))?;
+    let shift = if low { 2 } else { 0 };
+    let later_lanes =
+        [lanes_of::<5>, lanes_of::<6>, lanes_of::<7>, lanes_of::<8>][usize::from(cr) - 1];
+    let blocks = symbols[8..shape.symbols].chunks_exact(shape.width);
+    for (block, (symbols, nibbles)) in blocks.zip(in_later.chunks_mut(shape.rows)).enumerate() {
+        let lanes = later_lanes(symbols, shape.rows, shift);
+        repairs += read_words(lanes, cr, 0, nibbles)
+            .or_else(|i| refuse(if cr == 3 { 8 } else { 7 }, first + block * shape.rows + i))?;
+    }
+
+    let (pairs, _) = nibbles.as_chunks::<2>();
+    let mut payload = [0; MOST_BYTES];
+    let payload = &mut payload[..length];
+    for ((byte, pair), white) in payload.iter_mut().zip(pairs).zip(&WHITENING) {
+        *byte = joined(pair) ^ white;
+    }
+    if checksum {
+        let sent = u16::from_le_bytes([joined(&pairs[length]), joined(&pairs[length + 1])]);
+        if remainder(payload) != sent {
+            return refuse(12, 0);
+        }
+    }
+    out[..length].copy_from_slice(payload);
+    Ok(Received {
+        header,
+        symbols: shape.symbols,
+        repairs,
+    })
+}
+
+/// What settings and length say about a frame.
+struct Shape {
+    nibbles: usize,
+    /// Codewords of a later block.
+    rows: usize,
+    /// Symbols of a later block.
+    width: usize,
+    symbols: usize,
+}
+
+impl Shape {
+    fn new(settings: &Settings, length: usize) -> Shape {
+        let sf = usize::from(settings.sf);
+        let nibbles = 2 * length + 4 * usize::from(settings.checksum);
+        let rows = sf - 2 * usize::from(settings.low);
+        let width = usize::from(settings.cr) + 4;
+        let symbols = 8 + width * nibbles.saturating_sub(sf - 7).div_ceil(rows);
+        Shape {
+            nibbles,
+            rows,
+            width,
+            symbols,
+        }
+    }
+}
+
+fn halves(byte: u8) -> [u8; 2] {
+    [byte & 15, byte >> 4]
+}
+
+fn joined(pair: &[u8; 2]) -> u8 {
+    pair[0] | pair[1] << 4
+}
+
+/// The symbols of one block, fillers being codeword 0. The width is a constant
+/// so that the loop over the columns is unrolled.
+fn code_block<const WIDTH: usize>(nibbles: &[u8], rows: usize, shift: u32, out: &mut [u16]) {
+    let spread = &SPREAD[WIDTH - 5];
+    let mut lanes = 0;
+    // From the last row up, so that each step shifts by one place; a lane has
+    // room for more rows than a block has.
+    for nibble in nibbles.iter().rev() {
+        lanes = lanes << 1 | spread[usize::from(nibble & 15)];
+    }
+    for (j, symbol) in out[..WIDTH].iter_mut().enumerate() {
+        let lane = u32::from((lanes >> (16 * j)) as u16);
+        // Two copies on end make the rotation one shift; j may exceed N.
+        let turn = if j >= rows { j - rows } else { j };
+        let mut value = (lane | lane << rows) >> turn & ((1 << rows) - 1);
+        value ^= value >> 1;
+        value ^= value >> 2;
+        value ^= value >> 4;
+        value ^= value >> 8;
+        *symbol = (value << shift) as u16;
+    }
+}
+
+/// The columns of one block.
+fn lanes_of<const WIDTH: usize>(symbols: &[u16], rows: usize, shift: u32) -> u128 {
+    let mut lanes = 0;
+    for (j, symbol) in symbols[..WIDTH].iter().enumerate() {
+        let value = u32::from(symbol >> shift);
+        let word = value ^ value >> 1;
+        let turn = if j >= rows { j - rows } else { j };
+        let lane = (word << turn | word >> (rows - turn)) & ((1 << rows) - 1);
+        lanes |= u128::from(lane) << (16 * j);
+    }
+    lanes
+}
+
+/// The nibbles of the rows from `from` on, as many as `nibbles` holds. Answers
+/// the repairs, or which word can't be read.
+fn read_words(lanes: u128, cr: u8, from: usize, nibbles: &mut [u8]) -> Result<usize, usize> {
+    let reading = &READING[usize::from(cr) - 1];
+    let (mut low, mut high) = (lanes as u64 >> from, (lanes >> 64) as u64 >> from);
+    let mut repairs = 0;
+    let mut marks = 0;
+    for nibble in nibbles.iter_mut() {
+        let found = reading[gathered(low) | gathered(high) << 4];
+        marks |= found;
+        repairs += usize::from(found & REPAIRED != 0);
+        *nibble = found;
+        low >>= 1;
+        high >>= 1;
+    }
+    if marks & UNREADABLE != 0 {
+        return Err(nibbles
+            .iter()
+            .take_while(|found| **found != UNREADABLE)
+            .count());
+    }
+    nibbles.iter_mut().for_each(|nibble| *nibble &= 15);
+    Ok(repairs)
+}
+
+/// The bottom bits of four lanes, side by side. The terms of the
+/// product fall on different places, so nothing carries.
+fn gathered(lanes: u64) -> usize {
+    let bottom = lanes & 0x0001_0001_0001_0001;
+    (bottom.wrapping_mul(1 << 48 | 1 << 33 | 1 << 18 | 1 << 3) >> 48 & 15) as usize
+}
+
+fn header(nibbles: [u8; 5]) -> Result<Header, Refusal> {
+    let [a, b, e, fourth, fifth] = nibbles;
+    let length = usize::from(a) << 4 | usize::from(b);
+    if CHECKS[length << 4 | usize::from(e)] != (fourth & 1) << 4 | fifth {
+        return refuse(9, 0);
+    }
+    if fourth > 1 {
+        return refuse(10, 0);
+    }
+    let cr = e >> 1;
+    if !(1..=4).contains(&cr) {
+        return refuse(11, 0);
+    }
+    Ok(Header {
+        length,
+        cr,
+        checksum: e & 1 == 1,
+    })
+}
+
+fn check_range(sf: u8, symbols: &[u16], from: usize, to: usize) -> Result<(), Refusal> {
+    let symbols = &symbols[from..to];
+    if symbols.iter().fold(0, |all, symbol| all | symbol) >> sf == 0 {
+        return Ok(());
+    }
+    refuse(
+        6,
+        from + symbols
+            .iter()
+            .take_while(|symbol| **symbol >> sf == 0)
+            .count(),
+    )
+}
+
+fn remainder(payload: &[u8]) -> u16 {
+    payload.iter().fold(0, |remainder: u16, byte| {
+        (remainder << 8 | u16::from(*byte)) ^ REMAINDERS[usize::from(remainder >> 8)]
+    })
+}
+
+#[cfg(test)]
+mod tests {
+    use super::*;
+    use crate::cases;
+    use crate::plain;
+    use crate::random::Random;
+
+    #[test]
+    fn codes_as_plain_does() {
+        let mut random = Random::new(1);
+        for number in 0..40_000 {
+            let mut settings = cases::settings(number % cases::SETTINGS);
+            if random.once_in(20) {
+                settings.sf = random.byte() % 16;
+                settings.cr = random.byte() % 8;
+            }
+            let mut payload = cases::payload(&mut random);
+            if random.once_in(50) {
+                payload.resize(random.below(300), 7);
+            }
+            let needed = plain::count(&settings, payload.len()).unwrap_or(40);
+            let cells = if random.once_in(8) {
+                random.below(needed + 9)
+            } else {
+                needed
+            };
+            let (mut out, mut wanted) = (vec![9; cells], vec![9; cells]);
+            let answer = code(&settings, &payload, &mut out);
+            assert_eq!(
+                answer,
+                plain::code(&settings, &payload, &mut wanted),
+                "{settings:?}"
+            );
+            assert_eq!(out, wanted, "{settings:?}");
+        }
+    }
+
+    #[test]
+    fn reads_as_plain_does() {
+        let mut random = Random::new(2);
+        for number in 0..100_000 {
+            let kind = random.pick(&cases::KINDS);
+            let mut frame = cases::frame(
+                kind,
+                &cases::settings(number % cases::SETTINGS),
+                &mut random,
+            );
+            if random.once_in(50) {
+                frame.sf = random.byte();
+            }
+            let cells = if random.once_in(8) {
+                random.below(260)
+            } else {
+                MOST_BYTES
+            };
+            let (mut out, mut wanted) = (vec![9; cells], vec![9; cells]);
+            let answer = read(frame.sf, frame.low, &frame.symbols, &mut out);
+            let plainly = plain::read(frame.sf, frame.low, &frame.symbols, &mut wanted);
+            assert_eq!(answer, plainly, "{kind:?} {frame:?}");
+            assert_eq!(out, wanted, "{kind:?} {frame:?}");
+        }
+    }
+}

@@ -1,0 +1,50 @@
+//! What goes into the five operations and what comes out of them.
+
+/// The sender's settings. `sf` and `cr` may be out of range: the operations
+/// refuse them.
+#[derive(Clone, Copy, Debug, PartialEq, Eq)]
+pub struct Settings {
+    /// Spreading factor, 7 to 12.
+    pub sf: u8,
+    /// Low-rate flag.
+    pub low: bool,
+    /// Code rate, 1 to 4 for 4/5 to 4/8.
+    pub cr: u8,
+    /// Checksum flag.
+    pub checksum: bool,
+}
+
+/// A number handed back instead of a result, with its place.
+#[derive(Clone, Copy, Debug, PartialEq, Eq)]
+pub struct Refusal {
+    pub number: u8,
+    pub place: usize,
+}
+
+/// What the header says.
+#[derive(Clone, Copy, Debug, PartialEq, Eq)]
+pub struct Header {
+    pub length: usize,
+    pub cr: u8,
+    pub checksum: bool,
+}
+
+/// What reading a frame answers, next to the payload.
+#[derive(Clone, Copy, Debug, PartialEq, Eq)]
+pub struct Received {
+    pub header: Header,
+    /// Symbols used: the frame's own.
+    pub symbols: usize,
+    /// Codewords repaired, header included, fillers not.
+    pub repairs: usize,
+}
+
+/// Shorthand for a refusal as an outcome.
+pub fn refuse<T>(number: u8, place: usize) -> Result<T, Refusal> {
+    Err(Refusal { number, place })
+}
+
+/// An implementation of code.
+pub type Code = fn(&Settings, &[u8], &mut [u16]) -> Result<usize, Refusal>;
+/// An implementation of read.
+pub type Read = fn(u8, bool, &[u16], &mut [u8]) -> Result<Received, Refusal>;

@@ -1,0 +1,204 @@
+//! The examples of document 01, row by row, and those of its reading program.
+
+use reference::plain::{self, block, bytes, codeword::codeword, header};
+use reference::text::answer_line;
+use reference::types::{Header, Received, Refusal, Settings};
+
+const EMPTY: Settings = Settings {
+    sf: 7,
+    low: false,
+    cr: 1,
+    checksum: false,
+};
+const EMPTY_FRAME: [u16; 8] = [124, 48, 28, 0, 56, 28, 12, 0];
+const SF_11: Settings = Settings {
+    sf: 11,
+    low: false,
+    cr: 1,
+    checksum: true,
+};
+const LARGEST: Settings = Settings {
+    sf: 7,
+    low: true,
+    cr: 4,
+    checksum: true,
+};
+
+fn coded(settings: &Settings, payload: &[u8]) -> Vec<u16> {
+    let mut out = [0; 832];
+    let symbols = plain::code(settings, payload, &mut out).unwrap();
+    out[..symbols].to_vec()
+}
+
+/// Reads the empty SF 7 frame with its first symbols replaced.
+fn read_with_first(symbols: &[u16]) -> Result<Received, Refusal> {
+    let mut frame = EMPTY_FRAME;
+    frame[..symbols.len()].copy_from_slice(symbols);
+    plain::read(7, false, &frame, &mut [])
+}
+
+fn repairs_with_first(symbol: u16) -> usize {
+    read_with_first(&[symbol]).unwrap().repairs
+}
+
+#[test]
+fn codewords() {
+    assert_eq!(
+        [1, 7, 15].map(|nibble| codeword(nibble, 4)),
+        [0xD1, 0x17, 0xFF]
+    );
+    assert_eq!(codeword(1, 3), 0x51);
+    assert_eq!(codeword(8, 2), 0x28);
+    assert_eq!(codeword(15, 1), 0x0F);
+}
+
+#[test]
+fn whitening() {
+    let wanted = [0xFF, 0xFE, 0xFC, 0xF8, 0xF0, 0xE1, 0xC2, 0x85, 0x0B, 0x17];
+    assert_eq!(bytes::whitening()[..10], wanted);
+}
+
+#[test]
+fn checksums() {
+    assert_eq!(bytes::checksum(&[]), 0);
+    assert_eq!(bytes::checksum(&[0x12, 0x34]), 0x1234);
+    assert_eq!(bytes::checksum(&[1, 0, 0]), 0x1021);
+    let sent = plain::data_nibbles(true, &[0x12, 0x34]);
+    assert_eq!(sent[4..], [4, 3, 2, 1]);
+}
+
+#[test]
+fn headers() {
+    let two = Header {
+        length: 2,
+        cr: 1,
+        checksum: true,
+    };
+    assert_eq!(header::nibbles(&two), [0, 2, 3, 0, 5]);
+    let empty = Header {
+        length: 0,
+        cr: 1,
+        checksum: false,
+    };
+    assert_eq!(header::nibbles(&empty), [0, 0, 2, 0, 7]);
+}
+
+#[test]
+fn gray_step() {
+    assert_eq!(block::value(372), 423);
+}
+
+#[test]
+fn frames() {
+    assert_eq!(coded(&EMPTY, &[]), EMPTY_FRAME);
+    let wanted = [1692, 648, 348, 160, 400, 1748, 1124, 1136, 0, 0, 0, 0, 0];
+    assert_eq!(coded(&SF_11, &[0, 0]), wanted);
+    assert_eq!(plain::airtime(&SF_11, 2, 125, 8), Ok(413_696));
+}
+
+#[test]
+fn damaged_frames() {
+    assert_eq!(repairs_with_first(0), 1);
+    assert_eq!(repairs_with_first(123), 1);
+    assert_eq!(repairs_with_first(127), 0);
+    assert_eq!(
+        read_with_first(&[0, 0]),
+        Err(Refusal {
+            number: 7,
+            place: 4
+        })
+    );
+    assert_eq!(
+        read_with_first(&[128]),
+        Err(Refusal {
+            number: 6,
+            place: 0
+        })
+    );
+    let seven = plain::read(7, false, &EMPTY_FRAME[..7], &mut []);
+    assert_eq!(
+        seven,
+        Err(Refusal {
+            number: 5,
+            place: 8
+        })
+    );
+}
+
+#[test]
+fn refused_settings() {
+    for sf in [6, 13] {
+        let refusal = Refusal {
+            number: 1,
+            place: 0,
+        };
+        let settings = Settings { sf, ..EMPTY };
+        assert_eq!(plain::code(&settings, &[], &mut [0; 8]), Err(refusal));
+        assert_eq!(plain::count(&settings, 0), Err(refusal));
+        assert_eq!(plain::airtime(&settings, 0, 125, 8), Err(refusal));
+        assert_eq!(plain::head(sf, &EMPTY_FRAME), Err(refusal));
+        assert_eq!(plain::read(sf, false, &EMPTY_FRAME, &mut []), Err(refusal));
+    }
+    assert_eq!(plain::count(&LARGEST, 255), Ok(832));
+    let short = plain::code(&LARGEST, &[0; 255], &mut [0; 831]);
+    assert_eq!(
+        short,
+        Err(Refusal {
+            number: 4,
+            place: 832
+        })
+    );
+    let long = Err(Refusal {
+        number: 3,
+        place: 0,
+    });
+    assert_eq!(plain::code(&LARGEST, &[0; 256], &mut [0; 900]), long);
+    assert_eq!(plain::count(&LARGEST, 256), long);
+    let no_bandwidth = plain::airtime(&LARGEST, 255, 126, 8);
+    assert_eq!(
+        no_bandwidth,
+        Err(Refusal {
+            number: 13,
+            place: 0
+        })
+    );
+}
+
+#[test]
+fn reading_program() {
+    let symbols =
+        |how_many: usize| format!("7 0 124 48 28 0 56 28 12 0{}", " 9".repeat(how_many - 8));
+    let rows = [
+        ("7 0 124 48 28 0 56 28 12 0", "ok 0 1 0 8 0 -\n"),
+        (
+            "\n 007  00000\n124 48 28 0 56 28 12 0 \n",
+            "ok 0 1 0 8 0 -\n",
+        ),
+        (&symbols(832), "ok 0 1 0 8 0 -\n"),
+        (&symbols(833), "no 14 0\n"),
+        ("7 0", "no 5 8\n"),
+        ("", "no 14 0\n"),
+        (" \n", "no 14 0\n"),
+        ("7", "no 14 0\n"),
+        ("7 2", "no 14 0\n"),
+        ("6 2", "no 14 0\n"),
+        ("6 1", "no 1 0\n"),
+        ("65535 0", "no 1 0\n"),
+        ("263 0 124 48 28 0 56 28 12 0", "no 1 0\n"),
+        ("65536 0", "no 14 0\n"),
+        ("000007 0", "no 14 0\n"),
+        ("7\t0", "no 14 0\n"),
+        ("7 0\r\n", "no 14 0\n"),
+        ("7 -0", "no 14 0\n"),
+        ("7 0 124 48 28 0 56 28 12 0 70000", "no 14 0\n"),
+    ];
+    for (text, line) in rows {
+        assert_eq!(
+            String::from_utf8(answer_line(text.as_bytes())).unwrap(),
+            line,
+            "{text:?}"
+        );
+    }
+    let text = "11 0 1692 648 348 160 400 1748 1124 1136 0 0 0 0 0";
+    assert_eq!(answer_line(text.as_bytes()), b"ok 2 1 1 13 0 0000\n");
+}
