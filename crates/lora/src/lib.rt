@@ -78,13 +78,15 @@ fn symbols_of(s: Settings, length: usize) -> usize
 pub fn count(s: Settings, length: usize) -> Counted
     ensures { λ r. ⌜ r ≡ countOf s length ⌝ }
 {
-    if !layout::valid_sf(s.sf) {
+    let sf_holds = layout::valid_sf(s.sf);
+    let cr_holds = layout::valid_cr(s.cr);
+    if !sf_holds {
         return Counted::Refused {
             number: 1,
             place: 0,
         };
     }
-    if !layout::valid_cr(s.cr) {
+    if !cr_holds {
         return Counted::Refused {
             number: 2,
             place: 0,
@@ -324,6 +326,7 @@ fn decode(s: Settings, symbols: &[u16], len: usize, total: usize) -> Body
     Body { payload, answer }
 }
 
+// Writes the payload's first len bytes to the lent buffer.
 fn copy(payload: [u8; 255], len: usize, out: &mut [u8])
     requires { ⌜ (len ≤ 255) × (len ≤ length (now out)) ⌝ }
     ensures { λ _. ⌜ now (out .exit) ≡ over len (listed payload) (now (out .entry)) ⌝ }

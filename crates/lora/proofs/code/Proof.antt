@@ -24,8 +24,8 @@ returns : tie.Need-returns
 unfolding codeOf
 returns c =
     record {
-      answer = rw (sym (c .before .before .before .before .count .ensures) ∙ c .before .before .counted2 .given .1, lt-leb _ _ (c .if1 .taken));
       cells = refl;
+      answer = rw (sym (c .before .before .before .before .count .ensures) ∙ c .before .before .counted2 .given .1, lt-leb _ _ (c .if1 .taken));
     }
 
 send-requires : tie.Need-send-requires
@@ -37,8 +37,8 @@ returns-2 : tie.Need-returns-2
 unfolding codeOf
 returns-2 c =
     record {
-      answer = rw (sym (c .before .before .before .count .ensures) ∙ c .before .counted .given .1);
       cells = refl;
+      answer = rw (sym (c .before .before .before .count .ensures) ∙ c .before .counted .given .1);
     }
 
 same-length : tie.Need-same-length
@@ -49,8 +49,8 @@ unfolding codeOf
 returns-3 c =
     let k = countable (c .before .before .before .before .before .before) in
     record {
+      cells = rw (← k .is) at (c .before .before .send .ensures);
       answer = rw (sym (c .before .before .before .before .before .before .before .before .count .ensures) ∙ c .before .before .before .before .before .before .counted2 .given .1, le-leb _ _ (c .before .before .before .before .if1 .left));
-      cells = rw (k .is) (c .before .before .send .ensures);
     }
 
 pub code-spec : {M : Type 1} → statement M

@@ -3,7 +3,7 @@ use mathlib.Core.Bool.{true}
 use native.Mathlib.Omega.{arith}
 use borrow.Author.Tests.{not-true, not-false, lt-leb, le-leb}
 use Rattle.layout.specs.Layout.{validSf}
-use Rattle.lora.specs.Head.{headOf}
+use Rattle.lora.specs.Head.{firstOver, headOf}
 use Rattle.lora.proofs.CountLaws.{sf-valid}
 use borrow.Author.Needs.{needs}
 use Rattle.lora.proofs.head.Statement.{statement}
@@ -12,6 +12,10 @@ use Rattle.lora.proofs.head.Tie as tie
 -- the spreading factor is in range
 sf-holds : (c : tie.Else1) → validSf (c .before .before .before .args .sf) ≡ true
 sf-holds c = sym (c .before .valid-sf .ensures) ∙ not-false _ (c .if1 .left)
+
+-- the first of the eight symbols that is too large
+over-is : (c : tie.After-first-over) → let a = c .before .before .before .before .before .args in c .first-over .result ≡ firstOver (a .sf) (a .symbols .now) 8 0
+over-is c = c .first-over .ensures
 
 valid-sf-requires : tie.Need-valid-sf-requires
 valid-sf-requires c κs = search needs
@@ -31,7 +35,7 @@ first-over-requires c κs =
 
 returns-3 : tie.Need-returns-3
 unfolding headOf
-returns-3 c = rw (sf-holds (c .before .before .before), le-leb _ _ (c .before .before .if2 .left), ← c .before .first-over .ensures, lt-leb _ _ (c .if3 .taken))
+returns-3 c = rw (sf-holds (c .before .before .before), le-leb _ _ (c .before .before .if2 .left), ← over-is (c .before), lt-leb _ _ (c .if3 .taken))
 
 header-of-requires : tie.Need-header-of-requires
 header-of-requires c κs =
@@ -40,7 +44,7 @@ header-of-requires c κs =
 
 returns-4 : tie.Need-returns-4
 unfolding headOf
-returns-4 c = rw (sf-holds (c .before .before .before .before), le-leb _ _ (c .before .before .before .if2 .left), ← c .before .before .first-over .ensures, le-leb _ _ (c .before .if3 .left)) (c .header-of .ensures)
+returns-4 c = rw (sf-holds (c .before .before .before .before), le-leb _ _ (c .before .before .before .if2 .left), ← over-is (c .before .before), le-leb _ _ (c .before .if3 .left)) (c .header-of .ensures)
 
 pub head-spec : {M : Type 1} → statement M
 head-spec =
