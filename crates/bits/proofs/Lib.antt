@@ -3,3 +3,4 @@ pub mod Bits
 pub mod Tabs
 pub mod Fill
 pub mod Searches
+pub mod Placed

@@ -1,0 +1,60 @@
+use mathlib.Core.Path.{sym, _∙_}
+use Rattle.lora_c.proofs.FrontLaws.{short, enough}
+use borrow.Author.Needs.{needs}
+use Rattle.lora_c.proofs.lora_airtime.Statement.{statement}
+use Rattle.lora_c.proofs.lora_airtime.Tie as tie
+
+returns : tie.Need-returns
+returns c = record { is = short (search needs) }
+
+settings-of-requires : tie.Need-settings-of-requires
+settings-of-requires c κs = search needs
+
+airtime-requires : tie.Need-airtime-requires
+airtime-requires c κs = search needs
+
+enum-known-lasting : tie.Need-enum-known-lasting
+enum-known-lasting c = search needs
+
+put1-requires : tie.Need-put1-requires
+put1-requires c κs = search needs
+
+enum-known-lasting-2 : tie.Need-enum-known-lasting-2
+enum-known-lasting-2 c = search needs
+
+put1-requires-2 : tie.Need-put1-requires-2
+put1-requires-2 c κs = search needs
+
+same-length : tie.Need-same-length
+same-length c = search needs
+
+returns-2 : tie.Need-returns-2
+returns-2 c = let m = c .before .before .before .before .before in
+    let k = m .before .before in
+    rw (← k .before .settings-of .ensures, sym (k .airtime .ensures) ∙ m .lasting .given .1)
+    (record { is = enough (k .before .before .if1 .left) (c .before .before .put1 .ensures) })
+
+same-length-2 : tie.Need-same-length-2
+same-length-2 c = search needs
+
+returns-3 : tie.Need-returns-3
+returns-3 c = let m = c .before .before .before .before .before in
+    let k = m .before .before in
+    rw (← k .before .settings-of .ensures, sym (k .airtime .ensures) ∙ m .lasting2 .given .1)
+    (record { is = enough (k .before .before .if1 .left) (c .before .before .put12 .ensures) })
+
+pub lora-airtime-spec : {M : Type 1} → statement M
+lora-airtime-spec =
+    tie.close
+    (tie.spec
+    returns
+    settings-of-requires
+    airtime-requires
+    enum-known-lasting
+    put1-requires
+    enum-known-lasting-2
+    put1-requires-2
+    same-length
+    returns-2
+    same-length-2
+    returns-3)

@@ -1,0 +1,217 @@
+// The five operations for C and Rust. A flag is 0 for off, any other number for on. Each returns 0 for an acceptance, a
+// refusal's number with its place in answer[0], or 255 where `answer` has too few cells, and then nothing is written.
+ghost use mathlib.Core.Path.{_≡_};
+ghost use mathlib.Core.List.{[], _∷_};
+ghost use Prim.Native.Nat.{_≤_};
+ghost use lib.ListN.{length};
+ghost use Rattle.bits.specs.Bit.{asBit};
+ghost use Rattle.lora.specs.Airtime.{airtimeOf};
+ghost use Rattle.lora.specs.Code.{codeOf};
+ghost use Rattle.lora.specs.Count.{countOf};
+ghost use Rattle.lora.specs.Head.{headOf};
+ghost use Rattle.lora.specs.Read.{readOf};
+ghost use Rattle.lora_c.specs.Export.{flagOf, settingsOf, front, CountExported, TimeExported, HeadExported, CodeExported, ReadExported};
+use lora::Counted;
+use lora::Heading;
+use lora::Lasting;
+use lora::Received;
+use lora::Settings;
+
+// Settings with both flags as numbers.
+fn settings_of(sf: u8, low: u8, cr: u8, checksum: u8) -> Settings
+    ensures { λ r. ⌜ r ≡ settingsOf sf low cr checksum ⌝ }
+{
+    Settings {
+        sf,
+        low: low != 0,
+        cr,
+        checksum: checksum != 0,
+    }
+}
+
+// A flag as a cell: 1 for on, 0 for off.
+fn flag(b: bool) -> u64
+    ensures { λ r. ⌜ r ≡ asBit b ⌝ }
+{
+    if b { 1 } else { 0 }
+}
+
+// put1, put3, put5: write the first cells of `answer`.
+fn put1(answer: &mut [u64], a: u64)
+    requires { ⌜ 1 ≤ length (now answer) ⌝ }
+    ensures { λ _. ⌜ now (answer .exit) ≡ front (a ∷ []) (now (answer .entry)) ⌝ }
+{
+    answer[0] = a;
+}
+
+fn put3(answer: &mut [u64], a: u64, b: u64, c: u64)
+    requires { ⌜ 3 ≤ length (now answer) ⌝ }
+    ensures { λ _. ⌜ now (answer .exit) ≡ front (a ∷ b ∷ c ∷ []) (now (answer .entry)) ⌝ }
+{
+    answer[0] = a;
+    answer[1] = b;
+    answer[2] = c;
+}
+
+fn put5(answer: &mut [u64], a: u64, b: u64, c: u64, d: u64, e: u64)
+    requires { ⌜ 5 ≤ length (now answer) ⌝ }
+    ensures { λ _. ⌜ now (answer .exit) ≡ front (a ∷ b ∷ c ∷ d ∷ e ∷ []) (now (answer .entry)) ⌝ }
+{
+    answer[0] = a;
+    answer[1] = b;
+    answer[2] = c;
+    answer[3] = d;
+    answer[4] = e;
+}
+
+// How many symbols a frame has. answer[0] on acceptance: the count.
+#[no_mangle]
+pub extern "C" fn lora_count(
+    sf: u8,
+    low: u8,
+    cr: u8,
+    checksum: u8,
+    len: usize,
+    answer: &mut [u64],
+) -> u8
+    ensures { λ r. ⌜ CountExported (countOf (settingsOf sf low cr checksum) len) (now (answer .entry)) (now (answer .exit)) r ⌝ }
+{
+    if answer.len() < 1 {
+        return 255;
+    }
+    let counted = lora::count(settings_of(sf, low, cr, checksum), len);
+    match counted {
+        Counted::Refused { number, place } => {
+            put1(answer, place as u64);
+            number
+        }
+        Counted::Symbols { count } => {
+            put1(answer, count as u64);
+            0
+        }
+    }
+}
+
+// A frame's time on air. answer[0] on acceptance: the microseconds.
+#[no_mangle]
+pub extern "C" fn lora_airtime(
+    sf: u8,
+    low: u8,
+    cr: u8,
+    checksum: u8,
+    len: usize,
+    khz: u16,
+    preamble: u16,
+    answer: &mut [u64],
+) -> u8
+    ensures { λ r. ⌜ TimeExported (airtimeOf (settingsOf sf low cr checksum) len khz preamble) (now (answer .entry)) (now (answer .exit)) r ⌝ }
+{
+    if answer.len() < 1 {
+        return 255;
+    }
+    let lasting = lora::airtime(settings_of(sf, low, cr, checksum), len, khz, preamble);
+    match lasting {
+        Lasting::Refused { number, place } => {
+            put1(answer, place as u64);
+            number
+        }
+        Lasting::Microseconds { time } => {
+            put1(answer, time);
+            0
+        }
+    }
+}
+
+// Codes a payload into the lent list of symbols. answer[0] on acceptance: the count.
+#[no_mangle]
+pub extern "C" fn lora_code(
+    sf: u8,
+    low: u8,
+    cr: u8,
+    checksum: u8,
+    payload: &[u8],
+    out: &mut [u16],
+    answer: &mut [u64],
+) -> u8
+    ensures { λ r. ⌜ CodeExported (codeOf (settingsOf sf low cr checksum) (now (payload .entry)) (length (now (out .entry)))) (settingsOf sf low cr checksum) (now (payload .entry)) (now (out .entry)) (now (out .exit)) (now (answer .entry)) (now (answer .exit)) r ⌝ }
+{
+    if answer.len() < 1 {
+        return 255;
+    }
+    let counted = lora::code(settings_of(sf, low, cr, checksum), payload, out);
+    match counted {
+        Counted::Refused { number, place } => {
+            put1(answer, place as u64);
+            number
+        }
+        Counted::Symbols { count } => {
+            put1(answer, count as u64);
+            0
+        }
+    }
+}
+
+// What a frame's header says. answer on acceptance: length, CR, checksum flag.
+#[no_mangle]
+pub extern "C" fn lora_head(sf: u8, symbols: &[u16], answer: &mut [u64]) -> u8
+    ensures { λ r. ⌜ HeadExported (headOf sf (now (symbols .entry))) (now (answer .entry)) (now (answer .exit)) r ⌝ }
+{
+    if answer.len() < 3 {
+        return 255;
+    }
+    let heading = lora::head(sf, symbols);
+    match heading {
+        Heading::Refused { number, place } => {
+            put1(answer, place as u64);
+            number
+        }
+        Heading::Says {
+            length,
+            cr,
+            checksum,
+        } => {
+            put3(answer, length as u64, cr as u64, flag(checksum));
+            0
+        }
+    }
+}
+
+// Reads a frame's payload into the lent bytes. answer on acceptance: length, CR, checksum flag, symbols used, repairs.
+#[no_mangle]
+pub extern "C" fn lora_read(
+    sf: u8,
+    low: u8,
+    symbols: &[u16],
+    out: &mut [u8],
+    answer: &mut [u64],
+) -> u8
+    ensures { λ r. ⌜ ReadExported (readOf sf (flagOf low) (now (symbols .entry)) (length (now (out .entry)))) sf (flagOf low) (now (symbols .entry)) (now (out .entry)) (now (out .exit)) (now (answer .entry)) (now (answer .exit)) r ⌝ }
+{
+    if answer.len() < 5 {
+        return 255;
+    }
+    let received = lora::read(sf, low != 0, symbols, out);
+    match received {
+        Received::Refused { number, place } => {
+            put1(answer, place as u64);
+            number
+        }
+        Received::Payload {
+            length,
+            cr,
+            checksum,
+            symbols,
+            repairs,
+        } => {
+            put5(
+                answer,
+                length as u64,
+                cr as u64,
+                flag(checksum),
+                symbols as u64,
+                repairs as u64,
+            );
+            0
+        }
+    }
+}

@@ -1,0 +1,105 @@
+/* The digital half of a LoRa transceiver: payload bytes to symbol numbers, symbol numbers to payload, the header alone,
+ * the symbol count, the time on air. Explicit header only. Link with liblora_c.a (x86-64 Linux).
+ *
+ * A list is lent as a pointer and its number of elements. The lists of one call do not overlap, and a pointer is aligned
+ * and not null even where the number is 0. A flag (low, checksum) is 0 for off, any other number for on.
+ *
+ * Ranges: SF 7 to 12, CR 1 to 4 (4/5 to 4/8), length 0 to 255, bandwidth 125, 250 or 500 kHz, preamble any 16-bit number.
+ * The largest frame has 832 symbols, the longest payload 255 bytes.
+ *
+ * What a function returns:
+ *   0          accepted; `answer` holds the values told at the function, from answer[0] on
+ *   1 to 13    refused; answer[0] holds the place, and nothing else is written
+ *   255        `answer` has too few cells; nothing is written
+ * Cells of `answer` and of `out` that are not named stay as they were.
+ *
+ *   No.                        Given when                                               Place
+ *   LORA_BAD_SF            1   SF not 7 to 12                                           0
+ *   LORA_BAD_CR            2   CR not 1 to 4 (code, count, airtime)                     0
+ *   LORA_TOO_LONG          3   length above 255 (code, count, airtime)                  0
+ *   LORA_OUT_SHORT         4   lent output too short                                    cells needed
+ *   LORA_FEW_SYMBOLS       5   fewer symbols than needed                                symbols needed
+ *   LORA_SYMBOL_OVER       6   a symbol is 2^SF or more                                 its index
+ *   LORA_UNREADABLE        7   a codeword at 4/5, 4/6 or 4/8 can't be read              its number in the frame
+ *   LORA_UNREADABLE_4_7    8   a codeword at 4/7 is over one bit from every codeword    its number in the frame
+ *   LORA_HEADER_CHECK      9   header check bits wrong                                  0
+ *   LORA_HEADER_BIT       10   a header bit that must be 0 is 1                         0
+ *   LORA_HEADER_CR        11   header CR is 0, 5, 6 or 7                                0
+ *   LORA_CHECKSUM         12   payload checksum wrong                                   0
+ *   LORA_BAD_BANDWIDTH    13   bandwidth not 125, 250 or 500                            0
+ *
+ * Codewords are numbered through the frame from 0, block after block, fillers counted.
+ */
+#ifndef LORA_H
+#define LORA_H
+
+#include <stddef.h>
+#include <stdint.h>
+
+#ifdef __cplusplus
+extern "C" {
+#endif
+
+enum {
+    LORA_OK = 0,
+    LORA_BAD_SF = 1,
+    LORA_BAD_CR = 2,
+    LORA_TOO_LONG = 3,
+    LORA_OUT_SHORT = 4,
+    LORA_FEW_SYMBOLS = 5,
+    LORA_SYMBOL_OVER = 6,
+    LORA_UNREADABLE = 7,
+    LORA_UNREADABLE_4_7 = 8,
+    LORA_HEADER_CHECK = 9,
+    LORA_HEADER_BIT = 10,
+    LORA_HEADER_CR = 11,
+    LORA_CHECKSUM = 12,
+    LORA_BAD_BANDWIDTH = 13,
+    LORA_ANSWER_SHORT = 255
+};
+
+/* The sizes that are always enough, and the cells of `answer` that each function needs. */
+enum {
+    LORA_MAX_SYMBOLS = 832,
+    LORA_MAX_PAYLOAD = 255,
+    LORA_COUNT_CELLS = 1,
+    LORA_AIRTIME_CELLS = 1,
+    LORA_CODE_CELLS = 1,
+    LORA_HEAD_CELLS = 3,
+    LORA_READ_CELLS = 5
+};
+
+/* count: settings and a length; answers the number of symbols.
+ * Checks 1, 2, 3. `answer` needs 1 cell: [0] number of symbols. */
+uint8_t lora_count(uint8_t sf, uint8_t low, uint8_t cr, uint8_t checksum, size_t length,
+                   uint64_t *answer, size_t answer_len);
+
+/* airtime: the same, with bandwidth in kHz and preamble length n; answers the time on air in microseconds,
+ * (4(n + symbols) + 17) x 2^SF x 250 / bandwidth.
+ * Checks 1, 2, 3, 13. `answer` needs 1 cell: [0] microseconds. */
+uint8_t lora_airtime(uint8_t sf, uint8_t low, uint8_t cr, uint8_t checksum, size_t length, uint16_t khz,
+                     uint16_t preamble, uint64_t *answer, size_t answer_len);
+
+/* code: settings and a payload; fills the lent list `out` of 16-bit symbols from out[0] on; answers their count.
+ * Checks 1, 2, 3, 4. After a refusal `out` is as it was. `answer` needs 1 cell: [0] number of symbols. */
+uint8_t lora_code(uint8_t sf, uint8_t low, uint8_t cr, uint8_t checksum, const uint8_t *payload, size_t payload_len,
+                  uint16_t *out, size_t out_len, uint64_t *answer, size_t answer_len);
+
+/* head: SF and symbols; answers length, CR and checksum flag from the first eight.
+ * Checks 1; 5 for eight symbols; 6 among those, lowest index first; 7 over codewords 0 to 4; 9; 10; 11.
+ * `answer` needs 3 cells: [0] length, [1] CR, [2] checksum flag (0 or 1). */
+uint8_t lora_head(uint8_t sf, const uint16_t *symbols, size_t symbols_len, uint64_t *answer, size_t answer_len);
+
+/* read: SF, low-rate flag and symbols; fills the lent byte buffer `out` from out[0] on with the payload; answers length,
+ * CR, checksum flag, symbols used, codewords repaired. Symbols after the frame's own are ignored.
+ * Checks what head checks; then 4 for the payload; 5 for the whole frame; 6 over the rest; 7 and 8 over data codewords in
+ * frame order; 12. After a refusal `out` is as it was.
+ * `answer` needs 5 cells: [0] length, [1] CR, [2] checksum flag (0 or 1), [3] symbols used, [4] codewords repaired. */
+uint8_t lora_read(uint8_t sf, uint8_t low, const uint16_t *symbols, size_t symbols_len, uint8_t *out, size_t out_len,
+                  uint64_t *answer, size_t answer_len);
+
+#ifdef __cplusplus
+}
+#endif
+
+#endif
