@@ -1,47 +1,41 @@
 -- Laws of the payload checksum.
 -- Assumes nothing.
-use mathlib.Core.Path.{_≡_, refl, ap, _∙_}
+use mathlib.Core.Path.{_≡_, refl, sym, ap, _∙_}
 use mathlib.Core.List.{List, [], _∷_, _++_}
-use Prim.Native.Nat.{ℕ, zero, suc, _+_, _-_, _*_, _<_, _≤_}
-use native.Mathlib.Nat.{zero-add}
+use Prim.Native.Nat.{ℕ, zero, suc, _+_, _*_, _/_, _%_, _^_, _<_, _≤_}
+use native.Mathlib.Nat.{add-assoc, mul-comm, mul-assoc, add-mul, pow-suc, zero-div}
 use native.Mathlib.Decide.{decLt}
 use native.Mathlib.Numerals.{add-one}
 use native.Mathlib.Omega.{arith}
 use borrow.Author.Tests.{lt-ltb, le-ltb}
 use lib.ListN.{length, getD, drop, drop-of-length-le}
 use lib.Seq.{drop-cons}
-use lib.Bits.{bitXor, xor-block, xor-lt}
+use lib.Arith.{bin-ind, mod-mul}
+use lib.Dec.{ltb}
+use lib.Pow.{pow-pos, pow-mono}
+use lib.Bits.{bitXor, differ, xor-step, xor-comm, xor-shr, xor-zero-r, xor-shifted, xor-block}
 use Rattle.bits.specs.Bit.{bit}
+use Rattle.bits.specs.Pick.{pick}
 use Rattle.bits.proofs.Bits.{bit-lt}
 use Rattle.checksum.specs.Checksum.{divisor, reduced, oneBit, lowBits, oneByte, remainder, checksum}
 
--- a polynomial of degree 16 less the divisor: its top coefficient falls away, and the rest is XORed with the divisor's rest
-pub less-divisor : (p : ℕ) → p < 65536 → bitXor (65536 + p) divisor ≡ bitXor p 4129
-unfolding divisor
-less-divisor p h = xor-block 16 1 1 p 4129 h (omega arith) ∙ zero-add (bitXor p 4129)
-
--- where there is no top coefficient the bit only comes in below
-pub oneBit-low : (r b : ℕ) → r < 32768 → b < 2 → oneBit r b ≡ r * 2 + b
-unfolding oneBit reduced
-oneBit-low r b h l =
-    let small : r * 2 + b < 65536 = omega arith in
-    rw (lt-ltb _ _ small)
-
--- where there is one it is dropped, and the divisor's rest is taken off
-pub oneBit-high : (r b : ℕ) → 32768 ≤ r → r < 65536 → b < 2 → oneBit r b ≡ bitXor ((r - 32768) * 2 + b) 4129
-unfolding oneBit reduced
-oneBit-high r b h k l =
-    let big : 65536 ≤ r * 2 + b = omega arith in
-    let top : r * 2 + b ≡ 65536 + ((r - 32768) * 2 + b) = omega arith in
-    rw (le-ltb _ _ big, top) (less-divisor ((r - 32768) * 2 + b) (omega arith))
+-- a polynomial of degree 16 at most has a remainder of 16 bits: the divisor takes its top coefficient away
+pub reduced-lt : (p : ℕ) → p < 131072 → reduced p < 65536
+unfolding reduced divisor
+reduced-lt p h = go (decLt p 65536)
+  where
+    go : Dec (p < 65536) → pick (ltb p 65536) p (bitXor p divisor) < 65536
+    go (yes low) = rw (lt-ltb p 65536 low) low
+    go (no high) =
+        let big : 65536 ≤ p = omega arith in
+        let one : p / 65536 ≡ 1 = omega arith in
+        let none : bitXor p divisor / 65536 ≡ 0 = xor-shr p divisor 16 ∙ ap (λ (x : ℕ). bitXor x 1) one in
+        rw (le-ltb p 65536 big) (omega arith)
 
 -- after one more bit a remainder still has 16 bits
 pub oneBit-lt : (r b : ℕ) → r < 65536 → b < 2 → oneBit r b < 65536
-oneBit-lt r b h l = go (decLt r 32768)
-  where
-    go : Dec (r < 32768) → oneBit r b < 65536
-    go (yes low) = rw (oneBit-low r b low l) (omega arith)
-    go (no high) = rw (oneBit-high r b (omega arith) h l) (xor-lt 16 ((r - 32768) * 2 + b) 4129 (omega arith) (omega arith))
+unfolding oneBit
+oneBit-lt r b h l = reduced-lt (r * 2 + b) (omega arith)
 
 -- and so after some bits of a byte
 pub lowBits-lt : (k r byte : ℕ) → r < 65536 → lowBits k r byte < 65536
@@ -66,19 +60,93 @@ unfolding remainder
 remainder-append r [] ys = refl
 remainder-append r (x ∷ xs) ys = remainder-append (oneByte r x) xs ys
 
--- one of the k bits that are left is taken
-pub lowBits-more : {x : ℕ} (k r byte : ℕ) → 0 < k → x ≡ oneBit r (bit (k - 1) byte) → lowBits k r byte ≡ lowBits (k - 1) x byte
-unfolding lowBits
-lowBits-more k r byte h e =
-    let one : k ≡ suc (k - 1) = omega arith in
-    rw e (ap (λ (n : ℕ). lowBits n r byte) one)
+-- the XOR of two bits is their sum modulo 2
+differ-mod : (x y : ℕ) → x < 2 → y < 2 → differ x y ≡ (x + y) % 2
+differ-mod zero y hx hy = omega arith
+differ-mod (suc zero) zero hx hy = refl
+differ-mod (suc zero) (suc zero) hx hy = refl
+differ-mod (suc zero) (suc (suc y)) hx hy = absurd (omega arith)
+differ-mod (suc (suc x)) y hx hy = absurd (omega arith)
 
--- no bit left
-pub lowBits-end : (k r byte : ℕ) → k ≤ 0 → lowBits k r byte ≡ r
+-- an XOR, one bit at a time from below
+xor-sum : (a b : ℕ) → bitXor a b ≡ bitXor (a / 2) (b / 2) * 2 + (a % 2 + b % 2) % 2
+xor-sum a b =
+    xor-step a b ∙ ap (λ (x : ℕ). bitXor (a / 2) (b / 2) * 2 + x) (differ-mod (a % 2) (b % 2) (omega arith) (omega arith))
+
+-- two bits added one after the other, in either order
+swap-mod : (x y z : ℕ) → ((x + y) % 2 + z) % 2 ≡ ((x + z) % 2 + y) % 2
+swap-mod x y z = omega arith
+
+-- two XORs one after the other, in either order
+pub xor-swap : (a b c : ℕ) → bitXor (bitXor a b) c ≡ bitXor (bitXor a c) b
+xor-swap = bin-ind (λ (n : ℕ). (b c : ℕ) → bitXor (bitXor n b) c ≡ bitXor (bitXor n c) b) (λ b c. xor-comm b c) step
+  where
+    half : (a b : ℕ) → bitXor a b / 2 ≡ bitXor (a / 2) (b / 2)
+    half a b = omega (arith, xor-sum a b)
+
+    odd : (a b : ℕ) → bitXor a b % 2 ≡ (a % 2 + b % 2) % 2
+    odd a b = omega (arith, xor-sum a b)
+
+    step : (n : ℕ) → ((b c : ℕ) → bitXor (bitXor (n / 2) b) c ≡ bitXor (bitXor (n / 2) c) b) → (b c : ℕ) → bitXor (bitXor n b) c ≡ bitXor (bitXor n c) b
+    step n ih b c =
+        rw (xor-sum (bitXor n b) c, xor-sum (bitXor n c) b, half n b, half n c, odd n b, odd n c, ih (b / 2) (c / 2), swap-mod (n % 2) (b % 2) (c % 2))
+
+-- what has no top coefficient does not change whether the divisor goes in
+pub reduced-xor : (p q : ℕ) → q < 65536 → reduced (bitXor p q) ≡ bitXor (reduced p) q
+unfolding reduced
+reduced-xor p q h = go (decLt p 65536)
+  where
+    top : bitXor p q / 65536 ≡ p / 65536
+    top = let none : q / 65536 ≡ 0 = omega arith in xor-shr p q 16 ∙ ap (bitXor (p / 65536)) none ∙ xor-zero-r (p / 65536)
+
+    go : Dec (p < 65536) → pick (ltb (bitXor p q) 65536) (bitXor p q) (bitXor (bitXor p q) divisor) ≡ bitXor (pick (ltb p 65536) p (bitXor p divisor)) q
+    go (yes low) = rw (lt-ltb p 65536 low, lt-ltb (bitXor p q) 65536 (omega (arith, top)))
+    go (no high) =
+        let big : 65536 ≤ p = omega arith in
+        rw (le-ltb p 65536 big, le-ltb (bitXor p q) 65536 (omega (arith, top))) (xor-swap p q divisor)
+
+-- one bit is linear: what does not reach the top is doubled, and the bit comes in below
+pub oneBit-xor : (r s b : ℕ) → s < 32768 → b < 2 → oneBit (bitXor r s) b ≡ bitXor (oneBit r 0) (s * 2 + b)
+unfolding oneBit
+oneBit-xor r s b h l =
+    ap reduced (sym (xor-block 1 r s 0 b (omega arith) l)) ∙ reduced-xor (r * 2 + 0) (s * 2 + b) (omega arith)
+
+-- the k + 1 lowest bits of a byte, as a number, behind those of s
+low-more : (k s byte : ℕ) → (s * 2 + bit k byte) * 2 ^ k + byte % 2 ^ k ≡ s * 2 ^ suc k + byte % 2 ^ suc k
+unfolding bit
+low-more k s byte =
+    let m : byte % (2 * 2 ^ k) ≡ byte / 2 ^ k % 2 * 2 ^ k + byte % 2 ^ k = mod-mul byte (omega arith) (pow-pos k) in
+    rw (pow-suc, mul-comm (2 ^ k) 2, m, add-mul, mul-assoc, add-assoc)
+
+-- 0 has no bit
+bit-zero : (k : ℕ) → bit k 0 ≡ 0
+unfolding bit
+bit-zero k = rw zero-div
+
+-- k bits are linear: s, of j bits, does not reach the top, and goes up k places; the byte's k lowest bits come in below
+pub lowBits-xor : (k j r s byte : ℕ) → j + k ≤ 16 → s < 2 ^ j → lowBits k (bitXor r s) byte ≡ bitXor (lowBits k r 0) (s * 2 ^ k + byte % 2 ^ k)
 unfolding lowBits
-lowBits-end k r byte h =
-    let none : k ≡ 0 = omega arith in
-    rw none
+lowBits-xor zero j r s byte h l =
+    let same : s ≡ s * 1 + byte % 1 = omega arith in
+    ap (bitXor r) same
+lowBits-xor (suc k) j r s byte h l =
+    let low : 2 ^ j ≤ 2 ^ 15 = pow-mono {j = 15} (omega arith) in
+    let b : ℕ = bit k byte in
+    let small : b < 2 = bit-lt _ byte in
+    let up : s * 2 + b < 2 ^ suc j = rw pow-suc (omega arith) in
+    rw (oneBit-xor r s b (omega arith) small, bit-zero, lowBits-xor k (suc j) (oneBit r 0) (s * 2 + b) byte (omega arith) up, low-more k s byte)
+
+-- the remainder of h x^16, where h is the number of 8 bits that leave at the top
+unfoldable pub entry : ℕ → ℕ
+entry h = oneByte (h * 256) 0
+
+-- a byte all at once: the 8 bits at the top leave, and their remainder is taken off the rest with the byte
+pub oneByte-table : (r byte : ℕ) → byte < 256 → oneByte r byte ≡ bitXor (entry (r / 256)) (r % 256 * 256 + byte)
+unfolding oneByte entry
+oneByte-table r byte h =
+    let parts : r ≡ bitXor (r / 256 * 256) (r % 256) = omega (arith, xor-shifted (r / 256) 8 (r % 256) (omega arith)) in
+    let low : byte % 256 ≡ byte = omega arith in
+    ap (λ (x : ℕ). lowBits 8 x byte) parts ∙ rw low at (lowBits-xor 8 8 (r / 256 * 256) (r % 256) byte (omega arith) (omega arith))
 
 -- one of the bytes that are left is taken
 pub remainder-more : {x : ℕ} (s : List ℕ) (i r : ℕ) → i < length s → x ≡ oneByte r (getD s i 0) → remainder r (drop i s) ≡ remainder x (drop (i + 1) s)

@@ -1,3 +1,4 @@
+pub mod AnswerLaws
 pub mod CountLaws
 pub mod HeadLaws
 pub mod ReadLaws

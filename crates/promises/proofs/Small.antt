@@ -13,16 +13,15 @@ use Rattle.layout.specs.Layout.{validSf, validCr, rowsOfFirst, rowsOfLater, dat
 use Rattle.lora.specs.Airtime.{validBandwidth, dividend, microseconds, lasting, airtimeOf}
 use Rattle.lora.specs.Code.{fitting, codeOf, Coding}
 use Rattle.lora.specs.Count.{nibblesOf, symbolsOf, countOf}
-use Rattle.lora.specs.Head.{firstOver, headOf}
-use Rattle.lora.specs.Read.{totalOf, badInData, sumHolds, refusalAt, repairsOf, bodyOf, dataOf, onward, readOf}
+use Rattle.lora.specs.Head.{headOf}
+use Rattle.lora.specs.Read.{readOf}
 use Rattle.lora.specs.declared.Settings.{Settings}
 use Rattle.lora.specs.declared.Counted.{Counted}
 use Rattle.lora.specs.declared.Counted.the-variants.{Symbols, Refused as CountRefused}
 use Rattle.lora.specs.declared.Lasting.the-variants.{Microseconds, Refused as TimeRefused}
-use Rattle.lora.specs.declared.Heading.{Heading}
 use Rattle.lora.specs.declared.Heading.the-variants.{Says, Refused as HeadRefused}
-use Rattle.lora.specs.declared.Received.{Received}
 use Rattle.lora.specs.declared.Received.the-variants.{Payload, Refused}
+use Rattle.lora.proofs.AnswerLaws.{accepted}
 use Rattle.lora.proofs.CountLaws.{counted, coded, symbols-le}
 use Rattle.lora.proofs.TimeLaws.{whole}
 
@@ -67,36 +66,10 @@ airtime-whole s len khz n time e = one (countOf s len) refl e
     one (CountRefused a b) f g = absurd (let z : _≡_ {A = ℕ} 0 1 = cc in omega arith)
     one (Symbols count) f g = two count f (validBandwidth khz) refl g
 
--- what the body's checks leave of length, CR and flag
-body-keeps : (sf : ℕ) (low : Bool) (symbols : List ℕ) (room a b : ℕ) (c : Bool) (len cr : ℕ) (flag : Bool) (total repairs : ℕ)
-    → bodyOf sf low symbols room a b c ≡ Payload len cr flag total repairs → _≡_ {A = Heading} (Says a b c) (Says len cr flag)
-unfolding bodyOf dataOf
-body-keeps sf low symbols room a b c len cr flag total repairs e =
-    let whole : ℕ = totalOf sf low b a c in
-    let over : ℕ = firstOver sf symbols (whole - 8) 8 in
-    let bad : ℕ = badInData sf low b symbols a c in
-    keeps (leb a room) (leb whole (length symbols)) (leb whole over) (leb (nibblesOf a c) bad) (sumHolds sf low b symbols a c)
-    whole over whole (refusalAt sf low b bad) bad (repairsOf sf low b symbols a c) e
-  where
-    keeps : (t u v w x : Bool) (p q r n m k : ℕ)
-        → check t (Refused 4 a) (check u (Refused 5 p) (check v (Refused 6 q) (check w (Refused n m) (check x (Refused 12 0) (Payload a b c r k))))) ≡ Payload len cr flag total repairs
-        → _≡_ {A = Heading} (Says a b c) (Says len cr flag)
-    keeps true true true true true p q r n m k f = cc
-    keeps true true true true false p q r n m k f = absurd (let z : _≡_ {A = ℕ} 0 1 = cc in omega arith)
-    keeps true true true false x p q r n m k f = absurd (let z : _≡_ {A = ℕ} 0 1 = cc in omega arith)
-    keeps true true false w x p q r n m k f = absurd (let z : _≡_ {A = ℕ} 0 1 = cc in omega arith)
-    keeps true false v w x p q r n m k f = absurd (let z : _≡_ {A = ℕ} 0 1 = cc in omega arith)
-    keeps false u v w x p q r n m k f = absurd (let z : _≡_ {A = ℕ} 0 1 = cc in omega arith)
-
 -- head says what read says
 pub head-agrees : (sf : ℕ) (low : Bool) (symbols : List ℕ) (room len cr : ℕ) (flag : Bool) (total repairs : ℕ)
     → readOf sf low symbols room ≡ Payload len cr flag total repairs → headOf sf symbols ≡ Says len cr flag
-unfolding readOf
-head-agrees sf low symbols room len cr flag total repairs e = one (headOf sf symbols) e
-  where
-    one : (h : Heading) → onward h sf low symbols room ≡ Payload len cr flag total repairs → h ≡ Says len cr flag
-    one (HeadRefused a b) f = absurd (let z : _≡_ {A = ℕ} 0 1 = cc in omega arith)
-    one (Says a b c) f = body-keeps sf low symbols room a b c len cr flag total repairs f
+head-agrees sf low symbols room len cr flag total repairs e = accepted sf low symbols room len cr flag total repairs e .head
 
 -- and where head refuses, read refuses likewise
 pub head-refuses : (sf : ℕ) (low : Bool) (symbols : List ℕ) (room number place : ℕ) → headOf sf symbols ≡ HeadRefused number place → readOf sf low symbols room ≡ Refused number place

@@ -1,0 +1,48 @@
+use mathlib.Core.Path.{_≡_, sym, ap, _∙_}
+use mathlib.Core.List.{List}
+use lib.ListN.{length}
+use Rattle.bits.specs.Tab.{blank}
+use Rattle.bits.proofs.Tabs.{length-blank}
+use Rattle.lora.specs.Read.{readOf, Reading}
+use Rattle.text.specs.Answer.{Answered, Shown}
+use Rattle.text.proofs.AnswerLaws.{read-shown, frame-line}
+use borrow.Author.Needs.{needs}
+use Rattle.text.proofs.answer_frame.Statement.{statement}
+use Rattle.text.proofs.answer_frame.Tie as tie
+use Rattle.text.proofs.answer_frame.Reads as reads
+use Rattle.text.proofs.answer_frame.Lts as lts
+use Rattle.lora.proofs.read.Reads as read-reads
+use Rattle.text.proofs.line_for.Reads as line-for-reads
+use Rattle.text.proofs.narrow.Reads as narrow-reads
+
+narrow-requires : tie.Need-narrow-requires
+narrow-requires c κs = search needs
+
+slice-aggregate-read : tie.Need-slice-aggregate-read
+slice-aggregate-read c = search needs
+
+read-requires : tie.Need-read-requires
+read-requires c κs = search needs
+
+line-for-requires : tie.Need-line-for-requires
+line-for-requires c κs = (rw (c .before .before .read .ensures .answer) (read-shown _ _ _), search needs)
+
+same-length : tie.Need-same-length
+same-length c = search needs
+
+returns : tie.Need-returns
+unfolding blank
+returns c = let r = c .before .before .before .before .before .read .ensures in
+    let e = c .before .before .line-for .ensures in
+    rw (← frame-line (c .before .before .before .before .before .before .before .before .before .before .args .sf) _ _ _ _ _ (c .before .before .before .before .before .before .before .narrow .ensures) r) e
+
+pub answer-frame-spec : {M : Type 1} → statement M
+answer-frame-spec =
+    tie.close
+    (tie.spec
+    narrow-requires
+    slice-aggregate-read
+    read-requires
+    line-for-requires
+    same-length
+    returns)

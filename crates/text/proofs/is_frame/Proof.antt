@@ -1,0 +1,19 @@
+use Rattle.text.proofs.ScanLaws.{frame-few, frame-rate}
+use borrow.Author.Needs.{needs}
+use Rattle.text.proofs.is_frame.Statement.{statement}
+use Rattle.text.proofs.is_frame.Tie as tie
+
+returns : tie.Need-returns
+returns c = search needs
+
+returns-2 : tie.Need-returns-2
+returns-2 c = frame-few (c .before .before .before .args .scan) (c .before .before .before .args .numbers .now) (c .before .before .if1 .left) (c .if2 .taken)
+
+shared-slice-read-result : tie.Need-shared-slice-read-result
+shared-slice-read-result c = search needs
+
+returns-3 : tie.Need-returns-3
+returns-3 c = frame-rate (c .before .before .before .before .args .scan) (c .before .before .before .before .args .numbers .now) (c .before .before .before .if1 .left) (c .before .if2 .left)
+
+pub is-frame-spec : {M : Type 1} → statement M
+is-frame-spec = tie.close (tie.spec returns returns-2 shared-slice-read-result returns-3)

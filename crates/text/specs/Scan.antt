@@ -1,0 +1,82 @@
+-- A text taken byte by byte. Nothing here is needed to say what a text means: that is in Text.
+-- Assumes nothing.
+use mathlib.Core.Bool.{Bool, true, false, not}
+use mathlib.Core.List.{List, [], _∷_, _++_}
+use mathlib.Core.Path.{_≡_}
+use Prim.Native.Nat.{ℕ, _+_, _-_, _*_, _≤_}
+use lib.Dec.{leb, ltb, eqb}
+use lib.ListN.{length, take, getD}
+use Rattle.bits.specs.Pick.{pick, both}
+use Rattle.text.specs.Text.{isSeparator, isDigit, Text, bad, frameOf}
+use Rattle.text.specs.declared.Scan.{Scan}
+
+-- how far a text was taken: whether it is bad already, the digits and the value of the number that is open, and the
+-- numbers before it
+pub record State : Type 0 where
+  pub refused : Bool
+  pub digits : ℕ
+  pub value : ℕ
+  pub numbers : List ℕ
+
+unfoldable pub start : State
+start = record { refused = false; digits = 0; value = 0; numbers = [] }
+
+unfoldable pub refuse : State → State
+refuse s = record { refused = true; digits = s .digits; value = s .value; numbers = s .numbers }
+
+-- the open number ends: there is place for 834
+unfoldable pub shut : State → State
+shut s =
+    pick (eqb (s .digits) 0) s
+    (pick (ltb (length (s .numbers)) 834)
+    (record { refused = false; digits = 0; value = 0; numbers = s .numbers ++ (s .value ∷ []) })
+    (refuse s))
+
+-- a digit more
+unfoldable pub grown : State → ℕ → State
+grown s b =
+    pick (both (ltb (s .digits) 5) (leb (s .value * 10 + (b - 48)) 65535))
+    (record { refused = false; digits = s .digits + 1; value = s .value * 10 + (b - 48); numbers = s .numbers })
+    (refuse s)
+
+unfoldable pub step : State → ℕ → State
+step s b =
+    pick (s .refused) s
+    (pick (isSeparator b) (shut s)
+    (pick (isDigit b) (grown s b) (refuse s)))
+
+unfoldable pub run : State → List ℕ → State
+run s [] = s
+run s (b ∷ bs) = run (step s b) bs
+
+-- the end of the text: it shuts the open number too
+unfoldable pub ended : State → State
+ended s = pick (s .refused) s (shut s)
+
+-- the text that was taken, at its end
+unfoldable pub taken : State → Text
+taken s = pick (ended s .refused) bad (frameOf (ended s .numbers))
+
+-- the state that the struct and the list of numbers hold
+unfoldable pub stateOf : Scan → List ℕ → State
+stateOf c numbers = record { refused = c .refused; digits = c .digits; value = c .value; numbers = take (c .count) numbers }
+
+-- the struct, refused
+abbrev pub refusing : Scan → Scan
+refusing c = record { refused = true; digits = c .digits; value = c .value; count = c .count }
+
+-- a struct as scanning makes it, with a list of 834 numbers
+pub record Sane (c : Scan) (numbers : List ℕ) : Type 0 where
+  pub few : c .digits ≤ 5
+  pub small : c .value ≤ 65535
+  pub placed : c .count ≤ 834
+  pub long : length numbers ≡ 834
+
+-- the struct and the list hold the state s
+pub record Holds (s : State) (c : Scan) (numbers : List ℕ) : Type 0 where
+  pub sane : Sane c numbers
+  pub is : stateOf c numbers ≡ s
+
+-- whether a text that has ended is a frame: its first two numbers are there, and the second is 0 or 1
+abbrev pub isFrame : Scan → List ℕ → Bool
+isFrame c numbers = both (not (c .refused)) (both (leb 2 (c .count)) (leb (getD numbers 1 0) 1))
