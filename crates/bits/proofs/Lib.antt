@@ -1,6 +1,7 @@
-pub mod Every
 pub mod Bits
-pub mod Tabs
+pub mod Every
 pub mod Fill
-pub mod Searches
 pub mod Placed
+pub mod Searches
+pub mod Tabs
+pub mod Xor

@@ -7,20 +7,13 @@ use native.Mathlib.Nat.{mod-lt, div-one, div-add-mod', pow-suc, zero-lt-suc}
 use native.Mathlib.Omega.{arith}
 use lib.Arith.{lt-one, bin-ind}
 use lib.Pow.{pow-add}
-use lib.Bits.{bitXor, differ, xor-step}
+use lib.Bits.{bitXor}
 use lib.Count.{ones, ones-step}
 use Rattle.bits.specs.Bit.{number}
 use Rattle.bits.specs.Pick.{pick}
 use Rattle.bits.proofs.Bits.{half-pow, number-lt}
+use Rattle.bits.proofs.Xor.{xor-sum}
 use Rattle.block.specs.Gray.{valueOfWord, wordOfValue, numberOfValue, valueOfNumber}
-
--- the XOR of two bits is their sum modulo 2
-pub differ-mod : (x y : ℕ) → x < 2 → y < 2 → differ x y ≡ (x + y) % 2
-differ-mod zero y hx hy = omega arith
-differ-mod (suc zero) zero hx hy = refl
-differ-mod (suc zero) (suc zero) hx hy = refl
-differ-mod (suc zero) (suc (suc y)) hx hy = absurd (omega arith)
-differ-mod (suc (suc x)) y hx hy = absurd (omega arith)
 
 -- the value, one bit at a time from below
 pub value-step : (n w : ℕ) → valueOfWord (suc n) w ≡ valueOfWord n (w / 2) * 2 + ones w % 2
@@ -36,7 +29,7 @@ value-low (suc n) w h = rw value-step (omega arith)
 -- the word of a value, one bit at a time from below
 pub word-step : (v : ℕ) → wordOfValue v ≡ wordOfValue (v / 2) * 2 + (v % 2 + v / 2 % 2) % 2
 unfolding wordOfValue
-word-step v = xor-step v (v / 2) ∙ ap (λ (x : ℕ). bitXor (v / 2) (v / 2 / 2) * 2 + x) (differ-mod (v % 2) (v / 2 % 2) (omega arith) (omega arith))
+word-step v = xor-sum v (v / 2)
 
 -- an XOR undone
 twice : (a b : ℕ) → ((a % 2 + b) % 2 + b % 2) % 2 ≡ a % 2

@@ -13,10 +13,11 @@ use lib.Seq.{drop-cons}
 use lib.Arith.{bin-ind, mod-mul}
 use lib.Dec.{ltb}
 use lib.Pow.{pow-pos, pow-mono}
-use lib.Bits.{bitXor, differ, xor-step, xor-comm, xor-shr, xor-zero-r, xor-shifted, xor-block}
+use lib.Bits.{bitXor, xor-shr, xor-zero-r, xor-shifted, xor-block}
 use Rattle.bits.specs.Bit.{bit}
 use Rattle.bits.specs.Pick.{pick}
 use Rattle.bits.proofs.Bits.{bit-lt}
+use Rattle.bits.proofs.Xor.{xor-swap}
 use Rattle.checksum.specs.Checksum.{divisor, reduced, oneBit, lowBits, oneByte, remainder, checksum}
 
 -- a polynomial of degree 16 at most has a remainder of 16 bits: the divisor takes its top coefficient away
@@ -59,37 +60,6 @@ pub remainder-append : (r : ℕ) (xs ys : List ℕ) → remainder r (xs ++ ys) �
 unfolding remainder
 remainder-append r [] ys = refl
 remainder-append r (x ∷ xs) ys = remainder-append (oneByte r x) xs ys
-
--- the XOR of two bits is their sum modulo 2
-differ-mod : (x y : ℕ) → x < 2 → y < 2 → differ x y ≡ (x + y) % 2
-differ-mod zero y hx hy = omega arith
-differ-mod (suc zero) zero hx hy = refl
-differ-mod (suc zero) (suc zero) hx hy = refl
-differ-mod (suc zero) (suc (suc y)) hx hy = absurd (omega arith)
-differ-mod (suc (suc x)) y hx hy = absurd (omega arith)
-
--- an XOR, one bit at a time from below
-xor-sum : (a b : ℕ) → bitXor a b ≡ bitXor (a / 2) (b / 2) * 2 + (a % 2 + b % 2) % 2
-xor-sum a b =
-    xor-step a b ∙ ap (λ (x : ℕ). bitXor (a / 2) (b / 2) * 2 + x) (differ-mod (a % 2) (b % 2) (omega arith) (omega arith))
-
--- two bits added one after the other, in either order
-swap-mod : (x y z : ℕ) → ((x + y) % 2 + z) % 2 ≡ ((x + z) % 2 + y) % 2
-swap-mod x y z = omega arith
-
--- two XORs one after the other, in either order
-pub xor-swap : (a b c : ℕ) → bitXor (bitXor a b) c ≡ bitXor (bitXor a c) b
-xor-swap = bin-ind (λ (n : ℕ). (b c : ℕ) → bitXor (bitXor n b) c ≡ bitXor (bitXor n c) b) (λ b c. xor-comm b c) step
-  where
-    half : (a b : ℕ) → bitXor a b / 2 ≡ bitXor (a / 2) (b / 2)
-    half a b = omega (arith, xor-sum a b)
-
-    odd : (a b : ℕ) → bitXor a b % 2 ≡ (a % 2 + b % 2) % 2
-    odd a b = omega (arith, xor-sum a b)
-
-    step : (n : ℕ) → ((b c : ℕ) → bitXor (bitXor (n / 2) b) c ≡ bitXor (bitXor (n / 2) c) b) → (b c : ℕ) → bitXor (bitXor n b) c ≡ bitXor (bitXor n c) b
-    step n ih b c =
-        rw (xor-sum (bitXor n b) c, xor-sum (bitXor n c) b, half n b, half n c, odd n b, odd n c, ih (b / 2) (c / 2), swap-mod (n % 2) (b % 2) (c % 2))
 
 -- what has no top coefficient does not change whether the divisor goes in
 pub reduced-xor : (p q : ℕ) → q < 65536 → reduced (bitXor p q) ≡ bitXor (reduced p) q

@@ -7,13 +7,12 @@ use Prim.Native.Nat.{ℕ, _+_, _-_, _*_, _/_, _%_, _<_, _≤_}
 use native.Mathlib.Nat.{add-assoc}
 use native.Mathlib.Omega.{arith}
 use borrow.Author.Tests.{lt-ltb, le-ltb, eq-eqb, ne-eqb}
-use lib.Arith.{bin-ind}
-use lib.Bits.{bitXor, xor-step, xor-zero-l, xor-self}
+use lib.Bits.{bitXor}
 use lib.ListN.{length, getD}
 use lib.Seq.{ext-getD}
 use Rattle.bits.specs.Tab.{tab}
+use Rattle.bits.proofs.Xor.{xor-twice}
 use Rattle.bits.proofs.Tabs.{length-tab, getD-tab, tab-cong, tab-getD}
-use Rattle.block.proofs.GrayLaws.{differ-mod}
 use Rattle.checksum.specs.Checksum.{checksum}
 use Rattle.coding.specs.Nibbles.{dataByte, halfOf, dataNibble, bodyNibble, nibbleWith, frameNibble}
 use Rattle.header.specs.Header.{headerNibbles, verdictOf}
@@ -22,18 +21,6 @@ use Rattle.header.proofs.HeaderLaws.{length-header, verdict-header}
 use Rattle.layout.specs.Layout.{dataNibbles}
 use Rattle.reading.specs.Payload.{byteOfNibbles, payloadByte, sentChecksum}
 use Rattle.whitening.specs.Whitening.{whitening}
-
--- an XOR, one bit at a time from below
-xor-sum : (a b : ℕ) → bitXor a b ≡ bitXor (a / 2) (b / 2) * 2 + (a % 2 + b % 2) % 2
-xor-sum a b =
-    xor-step a b ∙ ap (λ (x : ℕ). bitXor (a / 2) (b / 2) * 2 + x) (differ-mod (a % 2) (b % 2) (omega arith) (omega arith))
-
--- an XOR with the same number twice changes nothing
-pub xor-twice : (a b : ℕ) → bitXor (bitXor a b) b ≡ a
-xor-twice = bin-ind (λ (n : ℕ). (b : ℕ) → bitXor (bitXor n b) b ≡ n) (λ b. rw xor-zero-l (xor-self b))
-    (λ n ih b. let half : bitXor n b / 2 ≡ bitXor (n / 2) (b / 2) = omega (arith, xor-sum n b) in
-    let odd : bitXor n b % 2 ≡ (n % 2 + b % 2) % 2 = omega (arith, xor-sum n b) in
-    rw (xor-sum (bitXor n b) b, half, odd, ih (b / 2)) (omega arith))
 
 -- the nibbles of byte p behind the header, low nibble first
 low-nibble : (payload : List ℕ) (sum p : ℕ) → dataNibble payload sum (2 * p) ≡ dataByte payload sum p % 16
