@@ -1,6 +1,6 @@
 -- A block read back: each bit of each codeword comes from one symbol, and comes back if that symbol does.
 -- Assumes nothing.
-use mathlib.Core.Path.{_≡_, refl, sym, ap, _∙_}
+use mathlib.Core.Path.{_≡_, refl, ap, _∙_}
 use mathlib.Core.Bool.{Bool, true, false, not}
 use mathlib.Core.List.{List, []}
 use Prim.Native.Nat.{ℕ, zero, suc, _+_, _-_, _%_, _^_, _≤_, _<_}
@@ -12,7 +12,7 @@ use borrow.Author.Tests.{eqb-true, eq-eqb}
 use Rattle.bits.specs.Bit.{bit, number, isSet, asBit}
 use Rattle.bits.specs.Pick.{pick}
 use Rattle.bits.specs.Search.{howMany}
-use Rattle.bits.proofs.Bits.{bit-lt, bit-number, number-lt, number-bit, number-cong, turn, same-bits}
+use Rattle.bits.proofs.Bits.{bit-lt, bit-number, number-lt, number-cong, turn, same-bits}
 use Rattle.bits.proofs.Tabs.{getD-over}
 use Rattle.bits.proofs.Searches.{howMany-mono}
 use Rattle.block.specs.Gray.{valueOfWord, numberOfValue}

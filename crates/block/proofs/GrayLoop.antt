@@ -1,49 +1,85 @@
--- How a loop that counts downwards makes the value of a word.
+-- The value of a word by four shifts.
 -- Assumes nothing.
-use mathlib.Core.Path.{_≡_, sym, ap, _∙_, subst}
-use Prim.Native.Nat.{ℕ, suc, _+_, _-_, _*_, _/_, _%_, _^_, _≤_, _<_}
-use native.Mathlib.Nat.{mod-lt, div-one, zero-lt-suc}
-use native.Mathlib.Numerals.{add-one}
+use mathlib.Core.Path.{_≡_, refl, sym, ap, _∙_}
+use Prim.Native.Nat.{ℕ, _+_, _/_, _%_, _^_, _≤_, _<_}
+use native.Mathlib.Nat.{div-eq-of-lt, lt-of-lt-of-le, lt-of-le-of-lt}
 use native.Mathlib.Omega.{arith}
-use lib.Pow.{shr-shr, shr-lt}
-use lib.Count.{ones, ones-step}
-use Rattle.bits.specs.Bit.{number}
-use Rattle.bits.proofs.Bits.{number-small}
-use Rattle.block.specs.Gray.{valueOfWord}
-use Rattle.block.proofs.GrayLaws.{value-step, value-low}
+use lib.Pow.{pow-mono, shr-le}
+use lib.Bits.{bitXor, xor-step, xor-shr, xor-lt, xor-zero-r}
+use Rattle.bits.specs.Bit.{bit}
+use Rattle.bits.proofs.Bits.{same-bits}
+use Rattle.block.specs.Gray.{valueOfWord, wordOfValue}
+use Rattle.block.proofs.TurnLaws.{bit-down}
+use Rattle.bits.proofs.Xor.{differ-mod}
+use Rattle.block.proofs.GrayLaws.{value-of-word-of-value}
 
--- one bit more, at the bottom
-value-turn : (n w k : ℕ) → w < 2 ^ n → k < n
-    → valueOfWord (n - k) (w / 2 ^ k) ≡ valueOfWord (n - suc k) (w / 2 ^ suc k) * 2 + (w / 2 ^ k % 2 + valueOfWord (n - suc k) (w / 2 ^ suc k) % 2) % 2
-value-turn n w k hw hk =
-    let m : ℕ = n - suc k in
-    let x : ℕ = w / 2 ^ suc k in
-    let e : n - k ≡ suc m = omega arith in
-    let f : w / 2 ^ k / 2 ≡ x = shr-shr w k 1 ∙ ap (λ (i : ℕ). w / 2 ^ i) (add-one k) in
-    let below : x < 2 ^ m = shr-lt m (suc k) (subst (λ (i : ℕ). w < 2 ^ i) (sum n k hk) hw) in
-    rw (e, value-step m (w / 2 ^ k), ones-step (w / 2 ^ k), f)
-    (rw (value-low m x below) (ap (λ (i : ℕ). valueOfWord m x * 2 + i) (odd (w / 2 ^ k % 2) (ones x))))
+-- a number XORed with itself, m places down
+unfoldable pub folded : ℕ → ℕ → ℕ
+folded m a = bitXor a (a / 2 ^ m)
+
+pub folded-lt : (n m a : ℕ) → a < 2 ^ n → folded m a < 2 ^ n
+unfolding folded
+folded-lt n m a h = xor-lt n a (a / 2 ^ m) h (lt-of-le-of-lt (shr-le a m) h)
+
+bit-xor : (k a b : ℕ) → bit k (bitXor a b) ≡ (bit k a + bit k b) % 2
+unfolding bit
+bit-xor k a b =
+    let x : ℕ = a / 2 ^ k in
+    let y : ℕ = b / 2 ^ k in
+    let d = differ-mod (x % 2) (y % 2) (omega arith) (omega arith) in
+    rw (xor-shr a b k) (omega (arith, xor-step x y, d))
+
+bit-folded : (k m a : ℕ) → bit k (folded m a) ≡ (bit k a + bit (m + k) a) % 2
+unfolding folded
+bit-folded k m a = bit-xor k a (a / 2 ^ m) ∙ ap (λ (x : ℕ). (bit k a + x) % 2) (bit-down k m a)
+
+-- twice the same fold is one of twice as many places
+folded-twice : (n m a : ℕ) → a < 2 ^ n → folded m (folded m a) ≡ folded (m + m) a
+folded-twice n m a h = same-bits n _ _ (folded-lt n m _ (folded-lt n m a h)) (folded-lt n (m + m) a h) (λ k l. at k)
   where
-    sum : (n k : ℕ) → k < n → n ≡ n - suc k + suc k
-    sum n k h = omega arith
+    sums : (x y z : ℕ) → ((x + y) % 2 + (y + z) % 2) % 2 ≡ (x + z) % 2
+    sums x y z = omega arith
 
-    odd : (a b : ℕ) → (a + b) % 2 ≡ (a + b % 2) % 2
-    odd a b = omega arith
+    at : (k : ℕ) → bit k (folded m (folded m a)) ≡ bit k (folded (m + m) a)
+    at k =
+        let e : m + m + k ≡ m + (m + k) = omega arith in
+        rw (bit-folded k m (folded m a), bit-folded k m a, bit-folded (m + k) m a, bit-folded k (m + m) a, e) (sums _ _ _)
 
--- the loop's start, its turn as k falls to k - 1, its end, and that what it holds is small
-pub value-start : (n w : ℕ) → 0 ≡ valueOfWord (n - n) (w / 2 ^ n)
-unfolding valueOfWord number
-value-start n w = let z : n - n ≡ 0 = omega arith in rw z
+-- the order of two folds does not matter
+folded-swap : (n m l a : ℕ) → a < 2 ^ n → folded m (folded l a) ≡ folded l (folded m a)
+folded-swap n m l a h = same-bits n _ _ (folded-lt n m _ (folded-lt n l a h)) (folded-lt n l _ (folded-lt n m a h)) (λ k s. at k)
+  where
+    two : (x y : ℕ) → (x % 2 + y % 2) % 2 ≡ (x + y) % 2
+    two x y = omega arith
 
-pub value-back : (n w k v : ℕ) → w < 2 ^ n → 0 < k → k ≤ n → v ≡ valueOfWord (n - k) (w / 2 ^ k)
-    → v * 2 + (w / 2 ^ (k - 1) % 2 + v % 2) % 2 ≡ valueOfWord (n - (k - 1)) (w / 2 ^ (k - 1))
-value-back n w k v hw pos le e =
-    let s : suc (k - 1) ≡ k = omega arith in
-    rw e (sym (rw s at (value-turn n w (k - 1) hw (omega arith))))
+    swap : (x y z w : ℕ) → x + y + (z + w) ≡ x + z + (y + w)
+    swap x y z w = omega arith
 
-pub value-end : (n w k : ℕ) → k ≡ 0 → valueOfWord (n - k) (w / 2 ^ k) ≡ valueOfWord n w
-value-end n w k e = let s : n - 0 ≡ n = omega arith in rw (e, s, div-one)
+    sums : (x y z w : ℕ) → ((x + y) % 2 + (z + w) % 2) % 2 ≡ ((x + z) % 2 + (y + w) % 2) % 2
+    sums x y z w = two (x + y) (z + w) ∙ ap (λ (s : ℕ). s % 2) (swap x y z w) ∙ sym (two (x + z) (y + w))
 
-pub value-small : (n x m : ℕ) → n ≤ m → valueOfWord n x < 2 ^ m
-unfolding valueOfWord
-value-small n x m h = number-small _ n m h (λ k. mod-lt (ones (x / 2 ^ k)) (zero-lt-suc 1))
+    at : (k : ℕ) → bit k (folded m (folded l a)) ≡ bit k (folded l (folded m a))
+    at k =
+        let e : l + (m + k) ≡ m + (l + k) = omega arith in
+        rw (bit-folded k m (folded l a), bit-folded k l a, bit-folded (m + k) l a, bit-folded k l (folded m a), bit-folded k m a, bit-folded (l + k) m a, e)
+        (sums _ _ _ _)
+
+-- nothing stands so far up
+folded-none : (n m a : ℕ) → n ≤ m → a < 2 ^ n → folded m a ≡ a
+unfolding folded
+folded-none n m a l h = rw (div-eq-of-lt (lt-of-lt-of-le h (pow-mono l))) (xor-zero-r a)
+
+word-folded : (v : ℕ) → wordOfValue v ≡ folded 1 v
+unfolding folded wordOfValue
+word-folded v = refl
+
+-- the value of a word of at most 16 bits
+pub value-folded : (n w : ℕ) → n ≤ 16 → w < 2 ^ n → folded 8 (folded 4 (folded 2 (folded 1 w))) ≡ valueOfWord n w
+value-folded n w small h =
+    let h1 = folded-lt n 1 w h in
+    let h2 = folded-lt n 2 _ h1 in
+    let h4 = folded-lt n 4 _ h2 in
+    let back : folded 1 (folded 8 (folded 4 (folded 2 (folded 1 w)))) ≡ w
+    = rw (folded-swap n 1 8 (folded 4 (folded 2 (folded 1 w))) h4, folded-swap n 1 4 (folded 2 (folded 1 w)) h2, folded-swap n 1 2 (folded 1 w) h1, folded-twice n 1 w h, folded-twice n 2 w h, folded-twice n 4 w h, folded-twice n 8 w h)
+    (folded-none n 16 w small h) in
+    sym (ap (valueOfWord n) (sym (word-folded _ ∙ back)) ∙ value-of-word-of-value n _ (folded-lt n 8 _ h4))

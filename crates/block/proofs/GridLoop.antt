@@ -1,38 +1,25 @@
 -- The rules by which the loops over a grid fill and build.
 -- Assumes nothing.
-use mathlib.Core.Path.{_≡_, ap, _∙_}
-use mathlib.Core.Bool.{Bool}
-use mathlib.Core.List.{List}
+use mathlib.Core.Path.{_≡_, sym, ap, _∙_}
+use mathlib.Core.Bool.{Bool, false}
+use mathlib.Core.List.{List, []}
 use Prim.Native.Nat.{ℕ, _+_, _-_, _*_, _%_, _^_, _≤_, _<_}
-use native.Mathlib.Nat.{add-mod-right, mod-eq-of-lt, mod-eq-sub-mod}
-use native.Mathlib.Decide.{decLt}
+use native.Mathlib.Nat.{mod-eq-of-lt, mod-eq-sub-mod, mod-lt, add-mod-mod}
 use native.Mathlib.Omega.{arith}
+use lib.Pow.{pow-pos}
 use lib.ListN.{getD}
 use Rattle.bits.specs.Bit.{bit, number, isSet, asBit}
-use Rattle.bits.proofs.Bits.{number-start, number-back, number-end, number-small}
+use Rattle.bits.specs.Tab.{tab, over, blank}
+use Rattle.bits.proofs.Bits.{bit-lt, bit-number, number-cong, number-start, number-back, number-end, number-small}
 use Rattle.bits.proofs.Searches.{asBit-le}
+use Rattle.bits.proofs.Tabs.{getD-blank, getD-over, getD-over-rest, over-cong}
 use Rattle.block.specs.Block.{placeInWord}
-use Rattle.block.specs.Grid.{row, cell}
+use Rattle.block.specs.Grid.{row, grid, cell, wordOfGrid, wordsOfGrid, gridOfWords, codewordOfGrid}
+use Rattle.block.proofs.TurnLaws.{bit-mod, bit-above, number-cut, over-blank}
 
--- a place once or twice round
+-- a place once round
 pub once : (n at : ℕ) → n ≤ at → at < 2 * n → at % n ≡ at - n
 once n at low high = mod-eq-sub-mod low ∙ mod-eq-of-lt (omega arith)
-
-pub twice : (n at : ℕ) → 2 * n ≤ at → at < 3 * n → at % n ≡ at - 2 * n
-twice n at low high = mod-eq-sub-mod (omega arith) ∙ once n (at - n) (omega arith) (omega arith) ∙ omega arith
-
--- the bit of word j that stands in row i, for a j less than two rounds
-pub place-round : (n i j : ℕ) → i < n → j < 2 * n → (i + 2 * n - j) % n ≡ placeInWord n i j
-unfolding placeInWord
-place-round n i j h l = go (decLt j n)
-  where
-    go : Dec (j < n) → (i + 2 * n - j) % n ≡ (i + n - j % n) % n
-    go (yes s) =
-        let e : i + 2 * n - j ≡ i + n - j + n = omega arith in
-        rw (e, mod-eq-of-lt s) (add-mod-right (i + n - j) n)
-    go (no s) =
-        let e : i + 2 * n - j ≡ i + n - (j - n) = omega arith in
-        rw (once n j (omega arith) l, e)
 
 -- a number of n bits by the rule f, as a loop builds it whose k falls from n to 0
 pub record Built (f : ℕ → ℕ) (n k w : ℕ) : Type 0 where
@@ -59,33 +46,107 @@ cellOfCodeword cw j = isSet (bit j cw)
 unfoldable pub rowOfCodeword : ℕ → List ℕ → ℕ → List Bool
 rowOfCodeword columns cws i = row columns (λ j. isSet (bit j (getD cws i 0)))
 
-unfoldable pub cellOfWords : ℕ → List ℕ → ℕ → ℕ → Bool
-cellOfWords n ws i j = isSet (bit (placeInWord n i j) (getD ws j 0))
+unfoldable pub cellOfColumns : List ℕ → ℕ → ℕ → Bool
+cellOfColumns plain i j = isSet (bit i (getD plain j 0))
 
--- the bit of word j at the place that stands in row i
-pub cell-placed : {n i j k : ℕ} (ws : List ℕ) → i < n → j < 2 * n → k ≡ (i + 2 * n - j) % n → isSet (bit k (getD ws j 0)) ≡ cellOfWords n ws i j
-unfolding cellOfWords
-cell-placed {n} {i} {j} ws h l e = rw (e, place-round n i j h l)
+asBit-lt : (b : Bool) → asBit b < 2
+asBit-lt b = omega (arith, asBit-le b)
 
-unfoldable pub rowOfWords : ℕ → ℕ → List ℕ → ℕ → List Bool
-rowOfWords n columns ws i = row columns (λ j. isSet (bit (placeInWord n i j) (getD ws j 0)))
+-- the bits of a row, by name
+unfoldable pub bitOfRow : List Bool → ℕ → ℕ
+bitOfRow r j = asBit (getD r j false)
 
--- the bits of a word and of a codeword, by name
-unfoldable pub bitOfWord : ℕ → List (List Bool) → ℕ → ℕ → ℕ
-bitOfWord n g j k = asBit (cell g ((j + k) % n) j)
+pub bitOfRow-lt : (r : List Bool) (j : ℕ) → bitOfRow r j < 2
+unfolding bitOfRow
+bitOfRow-lt r j = omega (arith, asBit-le (getD r j false))
 
--- the bit in column j of the row that place k of word j stands in
-pub bit-placed : (n j k : ℕ) {i : ℕ} (g : List (List Bool)) → i ≡ (j + k) % n → asBit (cell g i j) ≡ bitOfWord n g j k
-unfolding bitOfWord
-bit-placed n j k g e = rw e
+-- column j with the bit of a row more
+unfoldable pub longer : List ℕ → List Bool → ℕ → ℕ
+longer columns r j = getD columns j 0 * 2 + asBit (getD r j false)
 
-unfoldable pub bitOfCodeword : List (List Bool) → ℕ → ℕ → ℕ
-bitOfCodeword g i j = asBit (cell g i j)
+-- the lowest bits of a codeword, and none above them, are its row
+pub row-cut : (columns cw : ℕ) {low : ℕ} → columns ≤ 8 → low ≡ cw % 2 ^ columns → over 8 (cellOfCodeword low) (blank 8 false) ≡ row columns (λ j. isSet (bit j cw))
+unfolding row cellOfCodeword
+row-cut columns cw {low} h e =
+    over-blank columns 8 _ _ false h (λ j l. ap isSet (ap (bit j) e ∙ bit-mod columns cw j l))
+    (λ j l s. ap isSet (bit-above columns low j l (rw e (mod-lt cw (pow-pos columns)))))
 
-pub bitOfWord-lt : (n : ℕ) (g : List (List Bool)) (j k : ℕ) → bitOfWord n g j k < 2
-unfolding bitOfWord
-bitOfWord-lt n g j k = omega (arith, asBit-le (cell g ((j + k) % n) j))
+-- the bits of a row of the grid, cut to the block's columns, are its codeword
+pub codeword-cut : (columns : ℕ) (g : List (List Bool)) (i : ℕ) {x r : ℕ} → columns ≤ 8 → x ≡ number 8 (λ j. asBit (getD (getD g i []) j false))
+    → r ≡ x % 2 ^ columns → r ≡ codewordOfGrid columns g i
+unfolding codewordOfGrid cell
+codeword-cut columns g i h p e =
+    e ∙ ap (λ (y : ℕ). y % 2 ^ columns) p ∙ number-cut columns 8 _ h (λ j. asBit-lt (getD (getD g i []) j false))
 
-pub bitOfCodeword-lt : (g : List (List Bool)) (i j : ℕ) → bitOfCodeword g i j < 2
-unfolding bitOfCodeword
-bitOfCodeword-lt g i j = omega (arith, asBit-le (cell g i j))
+-- column j of the rows from i on
+unfoldable pub columnFrom : ℕ → List (List Bool) → ℕ → ℕ → ℕ
+columnFrom n g i j = number (n - i) (λ k. asBit (cell g (i + k) j))
+
+pub column-lt : (n : ℕ) (g : List (List Bool)) (i j : ℕ) {columns : List ℕ} → n ≤ 12 → j < 8 → columns ≡ over 8 (columnFrom n g i) (blank 8 0) → getD columns j 0 < 4096
+unfolding columnFrom
+column-lt n g i j h l e = rw (e, getD-over 8 (columnFrom n g i) (blank 8 0) j 0 l) (number-small _ (n - i) 12 (omega arith) (λ k. asBit-lt (cell g (i + k) j)))
+
+pub columns-none : (n : ℕ) (g : List (List Bool)) → blank 8 0 ≡ over 8 (columnFrom n g n) (blank 8 0)
+unfolding columnFrom tab
+columns-none n g = sym (over-blank 0 8 (columnFrom n g n) (λ j. 0) 0 (omega arith) (λ j l. absurd (omega arith)) (λ j l s. sym (number-start (λ i. asBit (cell g i j)) n)))
+
+pub columns-more : (n : ℕ) (g : List (List Bool)) (i : ℕ) {columns : List ℕ} → 0 < i → i ≤ n → columns ≡ over 8 (columnFrom n g i) (blank 8 0)
+    → over 8 (longer columns (getD g (i - 1) [])) (blank 8 0) ≡ over 8 (columnFrom n g (i - 1)) (blank 8 0)
+unfolding columnFrom longer cell
+columns-more n g i {columns} pos h e =
+    over-cong 8 _ _ (blank 8 0) (λ j l. number-back (λ k. asBit (cell g k j)) n i (getD columns j 0) pos h (rw e (getD-over 8 (columnFrom n g i) (blank 8 0) j 0 l)))
+
+pub columns-all : (n : ℕ) (g : List (List Bool)) (i : ℕ) → i ≡ 0
+    → over 8 (columnFrom n g i) (blank 8 0) ≡ over 8 (λ j. number n (λ k. asBit (cell g k j))) (blank 8 0)
+unfolding columnFrom
+columns-all n g i e = over-cong 8 _ _ (blank 8 0) (λ j l. number-end (λ k. asBit (cell g k j)) n i e)
+
+-- word j of a column, turned
+unfoldable pub wordOfColumns : ℕ → List ℕ → ℕ → ℕ
+wordOfColumns n plain j = number n (λ k. bit ((j + k) % n) (getD plain j 0))
+
+pub word-turned : (n j w : ℕ) {s : ℕ} (r : ℕ) → 0 < n → s ≡ j % n → r ≡ number n (λ k. bit ((k + n - (n - s)) % n) w) → r ≡ number n (λ k. bit ((j + k) % n) w)
+word-turned n j w {s} r h e p = p ∙ number-cong n _ _ (λ k l. ap (λ (i : ℕ). bit i w) (at k))
+  where
+    at : (k : ℕ) → (k + n - (n - s)) % n ≡ (j + k) % n
+    at k =
+        let low : j % n < n = mod-lt j h in
+        let q : k + n - (n - s) ≡ k + j % n = omega (arith, e) in
+        let t : k + j ≡ j + k = omega arith in
+        rw q (add-mod-mod k j n ∙ ap (λ (x : ℕ). x % n) t)
+
+pub words-of-columns : (n columns : ℕ) (g : List (List Bool)) {plain : List ℕ} → 0 < n → columns ≤ 8 → plain ≡ over 8 (λ j. number n (λ i. asBit (cell g i j))) (blank 8 0)
+    → over columns (wordOfColumns n plain) (blank 8 0) ≡ wordsOfGrid n columns g
+unfolding wordsOfGrid wordOfGrid wordOfColumns
+words-of-columns n columns g {plain} pos h e =
+    over-cong columns _ _ (blank 8 0) (λ j l. number-cong n _ _ (λ k s. ap (bit ((j + k) % n)) (column j (omega arith)) ∙ bit-number n _ (λ i. asBit-lt (cell g i j)) ((j + k) % n) (mod-lt (j + k) pos)))
+  where
+    column : (j : ℕ) → j < 8 → getD plain j 0 ≡ number n (λ i. asBit (cell g i j))
+    column j l = rw e (getD-over 8 (λ j. number n (λ i. asBit (cell g i j))) (blank 8 0) j 0 l)
+
+-- the column of word j
+unfoldable pub columnOfWords : ℕ → List ℕ → ℕ → ℕ
+columnOfWords n ws j = number n (λ i. bit (placeInWord n i j) (getD ws j 0))
+
+pub column-turned : (n j : ℕ) (ws : List ℕ) {s r : ℕ} → s ≡ j % n → r ≡ number n (λ i. bit ((i + n - s) % n) (getD ws j 0)) → r ≡ columnOfWords n ws j
+unfolding columnOfWords placeInWord
+column-turned n j ws e p = rw e at p
+
+-- the row that a row of columns is, where these are 0 behind the block's
+unfoldable pub rowOfColumns : List ℕ → ℕ → List Bool
+rowOfColumns plain i = row 8 (λ j. isSet (bit i (getD plain j 0)))
+
+pub rows-of-columns : (n columns : ℕ) (ws : List ℕ) {plain : List ℕ} → columns ≤ 8 → plain ≡ over columns (λ j. number n (λ i. bit (placeInWord n i j) (getD ws j 0))) (blank 8 0)
+    → over n (rowOfColumns plain) (blank 12 (blank 8 false)) ≡ gridOfWords n columns ws
+unfolding gridOfWords grid rowOfColumns row
+rows-of-columns n columns ws {plain} h p =
+    over-cong n _ _ (blank 12 (blank 8 false)) (λ i l. over-blank columns 8 _ _ false h (λ j s. ap isSet (inside i l j s)) (λ j s t. ap isSet (outside i j s t)))
+  where
+    f : ℕ → ℕ → ℕ
+    f j i = bit (placeInWord n i j) (getD ws j 0)
+
+    inside : (i : ℕ) → i < n → (j : ℕ) → j < columns → bit i (getD plain j 0) ≡ f j i
+    inside i l j s = rw (p, getD-over columns (λ j. number n (f j)) (blank 8 0) j 0 s) (bit-number n (f j) (λ k. bit-lt _ _) i l)
+
+    outside : (i j : ℕ) → columns ≤ j → j < 8 → bit i (getD plain j 0) ≡ 0
+    outside i j s t = rw (p, getD-over-rest columns (λ j. number n (f j)) (blank 8 0) j 0 s, getD-blank {A = ℕ} 8 j 0 0 t) (bit-above 0 0 i (omega arith) (omega arith))

@@ -2,3 +2,4 @@ pub mod BlockLaws
 pub mod GrayLaws
 pub mod GrayLoop
 pub mod GridLoop
+pub mod TurnLaws

@@ -1,23 +1,22 @@
 // A block's codewords as symbol words and back, through the grid of bits; a word as a symbol number and back.
 ghost use mathlib.Core.Path.{_≡_};
-ghost use Prim.Native.Nat.{_*_, _%_, _^_, _<_, _≤_};
-ghost use lib.ListN.{getD};
-ghost use Rattle.bits.specs.Bit.{bit, isSet};
+ghost use mathlib.Core.Bool.{false};
+ghost use Prim.Native.Nat.{ℕ, _+_, _-_, _*_, _%_, _^_, _<_, _≤_};
+ghost use lib.ListN.{length, getD};
+ghost use Rattle.bits.specs.Bit.{bit, number, isSet, asBit};
+ghost use Rattle.bits.specs.Tab.{over, blank};
 ghost use Rattle.block.specs.Gray.{valueOfWord, wordOfValue, numberOfValue, valueOfNumber};
 ghost use Rattle.block.specs.Block.{placeInWord, wordOfNumber};
-ghost use Rattle.block.specs.Grid.{Size, row, gridOfCodewords, wordOfGrid, wordsOfGrid, gridOfWords, codewordOfGrid, codewordsOfGrid};
+ghost use Rattle.block.specs.Grid.{Size, row, cell, gridOfCodewords, wordsOfGrid, gridOfWords, codewordsOfGrid};
 
 pub fn value_of_word(n: usize, w: u16) -> u16
     requires { ⌜ (n ≤ 12) × (w < 2 ^ n) ⌝ }
     ensures { λ r. ⌜ r ≡ valueOfWord n w ⌝ }
 {
-    let mut v: u16 = 0;
-    let mut k = n;
-    while k > 0 {
-        k -= 1;
-        v = v * 2 + ((w >> k) % 2 + v % 2) % 2;
-    }
-    v
+    let a = w ^ (w >> 1);
+    let b = a ^ (a >> 2);
+    let c = b ^ (b >> 4);
+    c ^ (c >> 8)
 }
 
 pub fn word_of_value(v: u16) -> u16
@@ -45,18 +44,38 @@ pub fn word_of_number(wide: bool, s: u16) -> u16
     word_of_value(value_of_number(wide, s))
 }
 
-// A place less than three times round n places, as one of them.
+// A place less than twice round n places, as one of them.
 fn around(n: usize, at: usize) -> usize
-    requires { ⌜ (n ≤ 12) × (at < 3 * n) ⌝ }
+    requires { ⌜ (n ≤ 12) × (at < 2 * n) ⌝ }
     ensures { λ r. ⌜ (r ≡ at % n) × (r < n) ⌝ }
 {
-    if at < n {
-        at
-    } else if at < 2 * n {
-        at - n
-    } else {
-        at - 2 * n
-    }
+    if at < n { at } else { at - n }
+}
+
+fn power(k: usize) -> u16
+    requires { ⌜ k ≤ 12 ⌝ }
+    ensures { λ r. ⌜ (r ≡ 2 ^ k) × (0 < r) ⌝ }
+{
+    1u16 << k
+}
+
+// The lowest n bits of a word, turned s places upwards.
+fn turned(n: usize, s: usize, w: u16) -> u16
+    requires { ⌜ (n ≤ 12) × (s ≤ n) ⌝ }
+    ensures { λ r. ⌜ r ≡ number n (λ i. bit ((i + n - s) % n) w) ⌝ }
+{
+    let rest = n - s;
+    let low = w % power(rest);
+    let high = (w >> rest) % power(s);
+    low * power(s) + high
+}
+
+// The lowest bits of a codeword.
+fn low_bits(columns: usize, codeword: u8) -> u8
+    requires { ⌜ columns ≤ 8 ⌝ }
+    ensures { λ r. ⌜ r ≡ codeword % 2 ^ columns ⌝ }
+{
+    ((codeword as u16) % power(columns)) as u8
 }
 
 // The bits of a codeword as a row.
@@ -64,9 +83,10 @@ fn row_of_codeword(columns: usize, codeword: u8) -> [bool; 8]
     requires { ⌜ columns ≤ 8 ⌝ }
     ensures { λ r. ⌜ r ≡ row columns (λ j. isSet (bit j codeword)) ⌝ }
 {
+    let low = low_bits(columns, codeword);
     let mut cells = [false; 8];
-    for j in 0..columns {
-        cells[j] = (codeword >> j) % 2 == 1;
+    for j in 0..8usize {
+        cells[j] = (low >> j) % 2 == 1;
     }
     cells
 }
@@ -82,66 +102,89 @@ pub fn grid_of_codewords(n: usize, columns: usize, codewords: [u8; 12]) -> [[boo
     g
 }
 
-// Word j down its diagonal, from the highest bit.
-fn word_of_grid(n: usize, g: [[bool; 8]; 12], j: usize) -> u16
-    requires { ⌜ (5 ≤ n) × (n ≤ 12) × (j < 8) ⌝ }
-    ensures { λ r. ⌜ r ≡ wordOfGrid n g j ⌝ }
+// The columns with a row more, each bit below those of its column.
+fn with_row(columns: [u16; 8], row: &[bool; 8]) -> [u16; 8]
+    requires { ⌜ ((j : ℕ) → j < 8 → getD columns j 0 < 4096) ⌝ }
+    ensures { λ r. ⌜ r ≡ over 8 (λ j. getD columns j 0 * 2 + asBit (getD (now (row .entry)) j false)) (blank 8 0) ⌝ }
 {
-    let mut w: u16 = 0;
-    let mut k = n;
-    while k > 0 {
-        k -= 1;
-        let i = around(n, j + k);
-        w = w * 2 + g[i][j] as u16;
+    let mut longer = [0u16; 8];
+    for j in 0..8usize {
+        longer[j] = columns[j] * 2 + row[j] as u16;
     }
-    w
+    longer
 }
 
+// The bits of each column, row 0 lowest.
+fn columns_of_grid(n: usize, g: [[bool; 8]; 12]) -> [u16; 8]
+    requires { ⌜ n ≤ 12 ⌝ }
+    ensures { λ r. ⌜ r ≡ over 8 (λ j. number n (λ i. asBit (cell g i j))) (blank 8 0) ⌝ }
+{
+    let mut columns = [0u16; 8];
+    let mut i = n;
+    while i > 0 {
+        i -= 1;
+        let longer = with_row(columns, &g[i]);
+        columns = longer;
+    }
+    columns
+}
+
+// Word j down its diagonal: column j, turned.
 pub fn words_of_grid(n: usize, columns: usize, g: [[bool; 8]; 12]) -> [u16; 8]
     requires { ⌜ Size n columns ⌝ }
     ensures { λ r. ⌜ r ≡ wordsOfGrid n columns g ⌝ }
 {
+    let plain = columns_of_grid(n, g);
     let mut words = [0u16; 8];
     for j in 0..columns {
-        words[j] = word_of_grid(n, g, j);
+        words[j] = turned(n, n - around(n, j), plain[j]);
     }
     words
 }
 
-// Row i: one bit of each word.
-fn row_of_words(n: usize, columns: usize, words: [u16; 8], i: usize) -> [bool; 8]
-    requires { ⌜ Size n columns × (i < n) ⌝ }
-    ensures { λ r. ⌜ r ≡ row columns (λ j. isSet (bit (placeInWord n i j) (getD words j 0))) ⌝ }
+// The column of each word: bit i of column j stands in row i.
+fn columns_of_words(n: usize, columns: usize, words: [u16; 8]) -> [u16; 8]
+    requires { ⌜ Size n columns ⌝ }
+    ensures { λ r. ⌜ r ≡ over columns (λ j. number n (λ i. bit (placeInWord n i j) (getD words j 0))) (blank 8 0) ⌝ }
 {
-    let mut cells = [false; 8];
+    let mut plain = [0u16; 8];
     for j in 0..columns {
-        let k = around(n, i + 2 * n - j);
-        cells[j] = (words[j] >> k) % 2 == 1;
+        plain[j] = turned(n, around(n, j), words[j]);
     }
-    cells
+    plain
+}
+
+// Row i: one bit of each column.
+fn set_row(plain: [u16; 8], i: usize, cells: &mut [bool; 8])
+    requires { ⌜ (i < 12) × (length (now cells) ≡ 8) ⌝ }
+    ensures { λ _. ⌜ now (cells .exit) ≡ row 8 (λ j. isSet (bit i (getD plain j 0))) ⌝ }
+{
+    for j in 0..8usize {
+        cells[j] = (plain[j] >> i) % 2 == 1;
+    }
 }
 
 pub fn grid_of_words(n: usize, columns: usize, words: [u16; 8]) -> [[bool; 8]; 12]
     requires { ⌜ Size n columns ⌝ }
     ensures { λ r. ⌜ r ≡ gridOfWords n columns words ⌝ }
 {
+    let plain = columns_of_words(n, columns, words);
     let mut g = [[false; 8]; 12];
     for i in 0..n {
-        g[i] = row_of_words(n, columns, words, i);
+        set_row(plain, i, &mut g[i]);
     }
     g
 }
 
-// The bits of row i, from the highest.
-fn codeword_of_grid(columns: usize, g: [[bool; 8]; 12], i: usize) -> u8
-    requires { ⌜ (columns ≤ 8) × (i < 12) ⌝ }
-    ensures { λ r. ⌜ r ≡ codewordOfGrid columns g i ⌝ }
+// The bits of a row, from the highest.
+fn codeword_of_row(row: &[bool; 8]) -> u8
+    ensures { λ r. ⌜ r ≡ number 8 (λ j. asBit (getD (now (row .entry)) j false)) ⌝ }
 {
     let mut codeword: u8 = 0;
-    let mut j = columns;
+    let mut j: usize = 8;
     while j > 0 {
         j -= 1;
-        codeword = codeword * 2 + g[i][j] as u8;
+        codeword = codeword * 2 + row[j] as u8;
     }
     codeword
 }
@@ -152,7 +195,7 @@ pub fn codewords_of_grid(n: usize, columns: usize, g: [[bool; 8]; 12]) -> [u8; 1
 {
     let mut codewords = [0u8; 12];
     for i in 0..n {
-        codewords[i] = codeword_of_grid(columns, g, i);
+        codewords[i] = low_bits(columns, codeword_of_row(&g[i]));
     }
     codewords
 }

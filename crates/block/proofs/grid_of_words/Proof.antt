@@ -1,33 +1,40 @@
+use mathlib.Core.Path.{ap, _∙_}
 use mathlib.Core.Bool.{false}
+use mathlib.Core.List.{[]}
 use Prim.Native.Nat.{_≤_, _-_}
 use native.Mathlib.Omega.{arith}
+use lib.ListN.{length}
 use Rattle.bits.specs.Tab.{blank}
-use Rattle.bits.proofs.Tabs.{length-blank}
-use Rattle.bits.proofs.Fill.{Filled, filled-none, filled-more, filled-end}
-use Rattle.block.specs.Grid.{grid, gridOfWords}
-use Rattle.block.proofs.GridLoop.{rowOfWords}
+use Rattle.bits.proofs.Tabs.{length-blank, getD-blank}
+use Rattle.bits.proofs.Fill.{Filled, filled-none, filled-more, filled-rest, filled-end}
+use Rattle.block.proofs.GridLoop.{rowOfColumns, rows-of-columns}
 use borrow.Author.Needs.{needs}
 use Rattle.block.proofs.grid_of_words.Statement.{statement}
 use Rattle.block.proofs.grid_of_words.Tie as tie
 
 abbrev Inv-loop : tie.InvT-loop
-Inv-loop n columns words g₀ i₀ g i = (i ≤ n) × Filled (rowOfWords n columns words) (blank 12 (blank 8 false)) i g
+Inv-loop n columns plain g₀ i₀ g i = (i ≤ n) × Filled (rowOfColumns plain) (blank 12 (blank 8 false)) i g
 
 abbrev μ-loop : tie.MeasureT-loop
-μ-loop n columns words g₀ i₀ g i = n - i
+μ-loop n columns plain g₀ i₀ g i = n - i
+
+columns-of-words-requires : tie.Need-columns-of-words-requires Inv-loop μ-loop
+columns-of-words-requires c κs = search needs
 
 loop-holds : tie.Need-loop-holds Inv-loop μ-loop
 unfolding blank
 loop-holds c = (search needs, filled-none _ _)
 
-row-of-words-requires : tie.Need-row-of-words-requires Inv-loop μ-loop
-row-of-words-requires c κs = search needs
+mul-set-row : tie.Need-mul-set-row Inv-loop μ-loop
+mul-set-row c = search needs
 
-mul-g : tie.Need-mul-g Inv-loop μ-loop
-mul-g c = search needs
+index-1-set-row : tie.Need-index-1-set-row Inv-loop μ-loop
+index-1-set-row c = search needs
 
-array-set-from-g : tie.Need-array-set-from-g Inv-loop μ-loop
-array-set-from-g c = search needs
+set-row-requires : tie.Need-set-row-requires Inv-loop μ-loop
+set-row-requires c κs =
+    let l = c .before .before .loop in
+    (search needs, ap length (filled-rest [] (l .inv .1) ∙ getD-blank 12 (l .i) (blank 8 false) [] (omega arith)) ∙ length-blank 8 false)
 
 add-i : tie.Need-add-i Inv-loop μ-loop
 add-i c = search needs
@@ -36,12 +43,12 @@ loop-less : tie.Need-loop-less Inv-loop μ-loop
 loop-less c = search needs
 
 loop-again : tie.Need-loop-again Inv-loop μ-loop
-unfolding rowOfWords
-loop-again c = (search needs, filled-more (c .before .before .loop .inv .1) (omega (arith, length-blank 12 (blank 8 false))) (c .row-of-words .ensures))
+unfolding rowOfColumns
+loop-again c = (search needs, filled-more (c .before .before .before .loop .inv .1) (omega (arith, length-blank 12 (blank 8 false))) (c .set-row .ensures))
 
 returns : tie.Need-returns Inv-loop μ-loop
-unfolding gridOfWords grid rowOfWords
-returns c = filled-end (c .before .loop .inv .1) (omega arith)
+returns c =
+    filled-end (c .before .loop .inv .1) (omega arith) ∙ rows-of-columns _ _ _ (omega arith) (c .before .before .columns-of-words .ensures)
 
 pub grid-of-words-spec : {M : Type 1} → statement M
 grid-of-words-spec =
@@ -49,10 +56,11 @@ grid-of-words-spec =
     (tie.spec
     Inv-loop
     μ-loop
+    columns-of-words-requires
     loop-holds
-    row-of-words-requires
-    mul-g
-    array-set-from-g
+    mul-set-row
+    index-1-set-row
+    set-row-requires
     add-i
     loop-less
     loop-again

@@ -1,4 +1,4 @@
-use mathlib.Core.Path.{refl}
+use mathlib.Core.Path.{refl, _∙_}
 use mathlib.Core.Bool.{false}
 use Prim.Native.Nat.{_≤_, _-_}
 use native.Mathlib.Omega.{arith}
@@ -6,17 +6,19 @@ use Rattle.bits.specs.Bit.{bit}
 use Rattle.bits.specs.Tab.{blank}
 use Rattle.bits.proofs.Tabs.{length-blank}
 use Rattle.bits.proofs.Fill.{Filled, filled-none, filled-more, filled-end}
-use Rattle.block.specs.Grid.{row}
-use Rattle.block.proofs.GridLoop.{cellOfCodeword}
+use Rattle.block.proofs.GridLoop.{cellOfCodeword, row-cut}
 use borrow.Author.Needs.{needs}
 use Rattle.block.proofs.row_of_codeword.Statement.{statement}
 use Rattle.block.proofs.row_of_codeword.Tie as tie
 
 abbrev Inv-loop : tie.InvT-loop
-Inv-loop columns codeword cells₀ j₀ cells j = (j ≤ columns) × Filled (cellOfCodeword codeword) (blank 8 false) j cells
+Inv-loop columns codeword low cells₀ j₀ cells j = (j ≤ 8) × Filled (cellOfCodeword low) (blank 8 false) j cells
 
 abbrev μ-loop : tie.MeasureT-loop
-μ-loop columns codeword cells₀ j₀ cells j = columns - j
+μ-loop columns codeword low cells₀ j₀ cells j = 8 - j
+
+low-bits-requires : tie.Need-low-bits-requires Inv-loop μ-loop
+low-bits-requires c κs = search needs
 
 loop-holds : tie.Need-loop-holds Inv-loop μ-loop
 unfolding blank
@@ -42,8 +44,9 @@ unfolding cellOfCodeword bit
 loop-again c = (search needs, filled-more (c .before .loop .inv .1) (omega (arith, length-blank 8 false)) refl)
 
 returns : tie.Need-returns Inv-loop μ-loop
-unfolding row cellOfCodeword
-returns c = filled-end (c .before .loop .inv .1) (omega arith)
+returns c =
+    let a = c .before .before .before .args in
+    filled-end (c .before .loop .inv .1) (omega arith) ∙ row-cut (a .columns) (a .codeword) (omega arith) (c .before .before .low-bits .ensures)
 
 pub row-of-codeword-spec : {M : Type 1} → statement M
 row-of-codeword-spec =
@@ -51,6 +54,7 @@ row-of-codeword-spec =
     (tie.spec
     Inv-loop
     μ-loop
+    low-bits-requires
     loop-holds
     cast-cells
     shr-cells

@@ -1,25 +1,41 @@
+use mathlib.Core.Path.{_∙_}
 use Prim.Native.Nat.{ℕ, _≤_, _-_}
 use native.Mathlib.Omega.{arith}
 use Rattle.bits.specs.Tab.{blank}
 use Rattle.bits.proofs.Tabs.{length-blank}
 use Rattle.bits.proofs.Fill.{Filled, filled-none, filled-more, filled-end}
-use Rattle.block.specs.Grid.{wordOfGrid, wordsOfGrid}
+use Rattle.block.proofs.GridLoop.{wordOfColumns, word-turned, words-of-columns}
 use borrow.Author.Needs.{needs}
 use Rattle.block.proofs.words_of_grid.Statement.{statement}
 use Rattle.block.proofs.words_of_grid.Tie as tie
 
 abbrev Inv-loop : tie.InvT-loop
-Inv-loop n columns g words₀ j₀ words j = (j ≤ columns) × Filled (wordOfGrid n g) (blank 8 0) j words
+Inv-loop n columns plain words₀ j₀ words j = (j ≤ columns) × Filled (wordOfColumns n plain) (blank 8 0) j words
 
 abbrev μ-loop : tie.MeasureT-loop
-μ-loop n columns g words₀ j₀ words j = columns - j
+μ-loop n columns plain words₀ j₀ words j = columns - j
+
+columns-of-grid-requires : tie.Need-columns-of-grid-requires Inv-loop μ-loop
+columns-of-grid-requires c κs = search needs
 
 loop-holds : tie.Need-loop-holds Inv-loop μ-loop
 unfolding blank
 loop-holds c = (search needs, filled-none _ _)
 
-word-of-grid-requires : tie.Need-word-of-grid-requires Inv-loop μ-loop
-word-of-grid-requires c κs = search needs
+around-requires : tie.Need-around-requires Inv-loop μ-loop
+around-requires c κs = search needs
+
+sub-turned : tie.Need-sub-turned Inv-loop μ-loop
+sub-turned c = search needs
+
+mul-turned : tie.Need-mul-turned Inv-loop μ-loop
+mul-turned c = search needs
+
+array-read-turned : tie.Need-array-read-turned Inv-loop μ-loop
+array-read-turned c = search needs
+
+turned-requires : tie.Need-turned-requires Inv-loop μ-loop
+turned-requires c κs = search needs
 
 mul-words : tie.Need-mul-words Inv-loop μ-loop
 mul-words c = search needs
@@ -34,11 +50,14 @@ loop-less : tie.Need-loop-less Inv-loop μ-loop
 loop-less c = search needs
 
 loop-again : tie.Need-loop-again Inv-loop μ-loop
-loop-again c = (search needs, filled-more (c .before .before .loop .inv .1) (omega (arith, length-blank {A = ℕ} 8 0)) (c .word-of-grid .ensures))
+unfolding wordOfColumns
+loop-again c =
+    let l = c .before .before .before .loop in
+    (search needs, filled-more (l .inv .1) (omega (arith, length-blank {A = ℕ} 8 0)) (word-turned _ (l .j) _ _ (omega arith) (c .before .around .ensures .0) (c .turned .ensures)))
 
 returns : tie.Need-returns Inv-loop μ-loop
-unfolding wordsOfGrid
-returns c = filled-end (c .before .loop .inv .1) (omega arith)
+returns c =
+    filled-end (c .before .loop .inv .1) (omega arith) ∙ words-of-columns _ _ _ (omega arith) (omega arith) (c .before .before .columns-of-grid .ensures)
 
 pub words-of-grid-spec : {M : Type 1} → statement M
 words-of-grid-spec =
@@ -46,8 +65,13 @@ words-of-grid-spec =
     (tie.spec
     Inv-loop
     μ-loop
+    columns-of-grid-requires
     loop-holds
-    word-of-grid-requires
+    around-requires
+    sub-turned
+    mul-turned
+    array-read-turned
+    turned-requires
     mul-words
     array-write-words
     add-j

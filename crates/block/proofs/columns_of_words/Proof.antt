@@ -1,0 +1,71 @@
+use Prim.Native.Nat.{ℕ, _≤_, _-_}
+use native.Mathlib.Omega.{arith}
+use Rattle.bits.specs.Tab.{blank}
+use Rattle.bits.proofs.Tabs.{length-blank}
+use Rattle.bits.proofs.Fill.{Filled, filled-none, filled-more, filled-end}
+use Rattle.block.proofs.GridLoop.{columnOfWords, column-turned}
+use borrow.Author.Needs.{needs}
+use Rattle.block.proofs.columns_of_words.Statement.{statement}
+use Rattle.block.proofs.columns_of_words.Tie as tie
+
+abbrev Inv-loop : tie.InvT-loop
+Inv-loop n columns words plain₀ j₀ plain j = (j ≤ columns) × Filled (columnOfWords n words) (blank 8 0) j plain
+
+abbrev μ-loop : tie.MeasureT-loop
+μ-loop n columns words plain₀ j₀ plain j = columns - j
+
+loop-holds : tie.Need-loop-holds Inv-loop μ-loop
+unfolding blank
+loop-holds c = (search needs, filled-none _ _)
+
+around-requires : tie.Need-around-requires Inv-loop μ-loop
+around-requires c κs = search needs
+
+mul-turned : tie.Need-mul-turned Inv-loop μ-loop
+mul-turned c = search needs
+
+array-read-turned : tie.Need-array-read-turned Inv-loop μ-loop
+array-read-turned c = search needs
+
+turned-requires : tie.Need-turned-requires Inv-loop μ-loop
+turned-requires c κs = search needs
+
+mul-plain : tie.Need-mul-plain Inv-loop μ-loop
+mul-plain c = search needs
+
+array-write-plain : tie.Need-array-write-plain Inv-loop μ-loop
+array-write-plain c = search needs
+
+add-j : tie.Need-add-j Inv-loop μ-loop
+add-j c = search needs
+
+loop-less : tie.Need-loop-less Inv-loop μ-loop
+loop-less c = search needs
+
+loop-again : tie.Need-loop-again Inv-loop μ-loop
+loop-again c =
+    let a = c .before .before .before .before .args in
+    let l = c .before .before .before .loop in
+    (search needs, filled-more (l .inv .1) (omega (arith, length-blank {A = ℕ} 8 0)) (column-turned (a .n) (l .j) (a .t3) (c .before .around .ensures .0) (c .turned .ensures)))
+
+returns : tie.Need-returns Inv-loop μ-loop
+unfolding columnOfWords
+returns c = filled-end (c .before .loop .inv .1) (omega arith)
+
+pub columns-of-words-spec : {M : Type 1} → statement M
+columns-of-words-spec =
+    tie.close
+    (tie.spec
+    Inv-loop
+    μ-loop
+    loop-holds
+    around-requires
+    mul-turned
+    array-read-turned
+    turned-requires
+    mul-plain
+    array-write-plain
+    add-j
+    loop-less
+    loop-again
+    returns)
