@@ -18,7 +18,7 @@ use Rattle.bits.specs.Bit.{bit}
 use Rattle.bits.specs.Pick.{pick}
 use Rattle.bits.proofs.Bits.{bit-lt}
 use Rattle.bits.proofs.Xor.{xor-swap}
-use Rattle.checksum.specs.Checksum.{divisor, reduced, oneBit, lowBits, oneByte, remainder, checksum}
+use Rattle.checksum.specs.Checksum.{divisor, reduced, oneBit, lowBits, oneByte, entry, remainder, checksum}
 
 -- a polynomial of degree 16 at most has a remainder of 16 bits: the divisor takes its top coefficient away
 pub reduced-lt : (p : ℕ) → p < 131072 → reduced p < 65536
@@ -105,10 +105,6 @@ lowBits-xor (suc k) j r s byte h l =
     let small : b < 2 = bit-lt _ byte in
     let up : s * 2 + b < 2 ^ suc j = rw pow-suc (omega arith) in
     rw (oneBit-xor r s b (omega arith) small, bit-zero, lowBits-xor k (suc j) (oneBit r 0) (s * 2 + b) byte (omega arith) up, low-more k s byte)
-
--- the remainder of h x^16, where h is the number of 8 bits that leave at the top
-unfoldable pub entry : ℕ → ℕ
-entry h = oneByte (h * 256) 0
 
 -- a byte all at once: the 8 bits at the top leave, and their remainder is taken off the rest with the byte
 pub oneByte-table : (r byte : ℕ) → byte < 256 → oneByte r byte ≡ bitXor (entry (r / 256)) (r % 256 * 256 + byte)

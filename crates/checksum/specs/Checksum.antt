@@ -35,3 +35,7 @@ remainder r (byte ∷ bytes) = remainder (oneByte r byte) bytes
 -- the remainder of the whole payload; the empty one has 0
 unfoldable pub checksum : List ℕ → ℕ
 checksum payload = remainder 0 payload
+
+-- what a remainder's upper byte h becomes as a byte more comes in: the remainder of h x^16
+unfoldable pub entry : ℕ → ℕ
+entry h = oneByte (h * 256) 0

@@ -1,6 +1,7 @@
 // The payload checksum.
 ghost use mathlib.Core.Path.{_≡_};
-ghost use Rattle.checksum.specs.Checksum.{oneByte, checksum};
+ghost use Rattle.bits.specs.Tab.{tab};
+ghost use Rattle.checksum.specs.Checksum.{oneByte, entry, checksum};
 
 // At the place h the remainder of h x^16.
 const TABLE: [u16; 256] = [
@@ -262,18 +263,21 @@ const TABLE: [u16; 256] = [
     7920,
 ];
 
-fn one_byte(r: u16, byte: u8) -> u16
+// One byte more. The table is lent, since a constant array is copied at each use.
+fn one_byte(table: &[u16; 256], r: u16, byte: u8) -> u16
+    requires { ⌜ now table ≡ tab 256 entry ⌝ }
     ensures { λ s. ⌜ s ≡ oneByte r byte ⌝ }
 {
-    TABLE[(r / 256) as usize] ^ (r % 256 * 256 + byte as u16)
+    table[(r / 256) as usize] ^ (r % 256 * 256 + byte as u16)
 }
 
 pub fn checksum(payload: &[u8]) -> u16
     ensures { λ r. ⌜ r ≡ checksum (now (payload .entry)) ⌝ }
 {
+    let table = TABLE;
     let mut r: u16 = 0;
     for i in 0..payload.len() {
-        r = one_byte(r, payload[i]);
+        r = one_byte(&table, r, payload[i]);
     }
     r
 }

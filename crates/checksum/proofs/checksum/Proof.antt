@@ -1,29 +1,32 @@
 use Prim.Native.Nat.{_≤_, _-_}
 use mathlib.Core.Path.{_≡_, refl, sym, _∙_}
 use lib.ListN.{length, drop}
-use Rattle.checksum.specs.Checksum.{remainder, checksum}
+use Rattle.bits.specs.Bit.{bit}
+use Rattle.bits.specs.Tab.{tab}
+use Rattle.checksum.specs.Checksum.{divisor, reduced, oneBit, lowBits, oneByte, entry, remainder, checksum}
 use Rattle.checksum.proofs.ChecksumLaws.{remainder-more, remainder-end}
 use borrow.Author.Needs.{needs}
 use Rattle.checksum.proofs.checksum.Statement.{statement}
 use Rattle.checksum.proofs.checksum.Tie as tie
+use Rattle.checksum.proofs.checksum.Reads as reads
+use Rattle.checksum.proofs.checksum.Lts as lts
+use Rattle.checksum.proofs.one_byte.Reads as one-byte-reads
 
--- the bytes from the place i on are left
 abbrev Inv-loop : tie.InvT-loop
-Inv-loop payload r₀ i₀ i-end r i =
-    (i-end ≡ length payload) × (i ≤ i-end) × (checksum payload ≡ remainder r (drop i payload))
+Inv-loop payload table r₀ i₀ i-end r i = (table ≡ tab 256 entry) × (i-end ≡ length payload) × (i ≤ i-end) × (checksum payload ≡ remainder r (drop i payload))
 
 abbrev μ-loop : tie.MeasureT-loop
-μ-loop payload r₀ i₀ i-end r i = i-end - i
+μ-loop payload table r₀ i₀ i-end r i = i-end - i
 
 loop-holds : tie.Need-loop-holds Inv-loop μ-loop
-unfolding checksum
-loop-holds c = (search needs, search needs, refl)
+unfolding checksum tab entry oneByte lowBits oneBit reduced divisor bit
+loop-holds c = (refl, search needs, search needs, refl)
 
 shared-slice-read-one-byte : tie.Need-shared-slice-read-one-byte Inv-loop μ-loop
 shared-slice-read-one-byte c = search needs
 
 one-byte-requires : tie.Need-one-byte-requires Inv-loop μ-loop
-one-byte-requires c κs = search needs
+one-byte-requires c κs = c .before .before .before .loop .inv .0
 
 add-i : tie.Need-add-i Inv-loop μ-loop
 add-i c = search needs
@@ -32,15 +35,22 @@ loop-less : tie.Need-loop-less Inv-loop μ-loop
 loop-less c = search needs
 
 loop-again : tie.Need-loop-again Inv-loop μ-loop
-loop-again c =
-    let now = c .before .before .before .loop in
-    (search needs, search needs, now .inv .2 ∙ remainder-more (c .before .before .before .before .before .args .payload .now) (now .i) _ (search needs) (c .one-byte .ensures))
+loop-again c = let now = c .before .before .before .before .loop in
+    (now .inv .0, search needs, search needs, now .inv .3 ∙ remainder-more (c .before .before .before .before .before .before .args .payload .now) (now .i) _ (search needs) (c .one-byte .ensures))
 
 returns : tie.Need-returns Inv-loop μ-loop
-returns c =
-    sym (c .before .loop .inv .2 ∙ remainder-end (c .before .before .before .args .payload .now) (c .before .loop .i) _ (search needs))
+returns c = sym (c .before .loop .inv .3 ∙ remainder-end (c .before .before .before .args .payload .now) (c .before .loop .i) _ (search needs))
 
 pub checksum-spec : {M : Type 1} → statement M
 checksum-spec =
     tie.close
-    (tie.spec Inv-loop μ-loop loop-holds shared-slice-read-one-byte one-byte-requires add-i loop-less loop-again returns)
+    (tie.spec
+    Inv-loop
+    μ-loop
+    loop-holds
+    shared-slice-read-one-byte
+    one-byte-requires
+    add-i
+    loop-less
+    loop-again
+    returns)
