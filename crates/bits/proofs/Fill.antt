@@ -5,8 +5,8 @@ use mathlib.Core.List.{List}
 use Prim.Native.Nat.{ℕ, zero, suc, _+_, _<_, _≤_}
 use native.Mathlib.Omega.{arith}
 use lib.ListN.{length, getD, set, length-set}
-use Rattle.bits.specs.Tab.{tab, over, overAt}
-use Rattle.bits.proofs.Tabs.{over-none, over-more, over-all, getD-over-rest, overAt-none, overAt-more, length-over, over-on}
+use Rattle.bits.specs.Tab.{over, overAt}
+use Rattle.bits.proofs.Tabs.{over-none, over-more, getD-over-rest, overAt-none, overAt-more, length-over, over-on}
 
 -- l is d with its first n cells by the rule f
 pub record Filled {A : Type 0} (f : ℕ → A) (d : List A) (n : ℕ) (l : List A) : Type 0 where
@@ -34,11 +34,6 @@ module _ {A : Type 0} where
 
   pub filled-end : {f : ℕ → A} {d : List A} {m n : ℕ} {l : List A} → Filled f d m l → m ≡ n → l ≡ over n f d
   filled-end {f} {d} p e = rw e at (p .is)
-
-  pub filled-all : {f : ℕ → A} {d : List A} {n : ℕ} {l : List A} → Filled f d n l → length d ≤ n → l ≡ tab (length d) f
-  filled-all {f} {d} {n} {l} p h =
-      let e : n ≡ length d = omega arith in
-      filled-end p e ∙ over-all (length d) f d (omega arith)
 
   -- a piece of m cells more
   pub filled-on : {f g : ℕ → A} {d : List A} {n m : ℕ} {l k : List A} → Filled f d n l → n + m ≤ length d → k ≡ overAt n m g l

@@ -37,10 +37,6 @@ nibbleWith header payload sum flag i =
 unfoldable pub frameNibble : List ℕ → List ℕ → Bool → ℕ → ℕ
 frameNibble header payload flag = nibbleWith header payload (checksum payload) flag
 
--- the header's and the data nibbles of a frame
-unfoldable pub nibbleCount : List ℕ → List ℕ → Bool → ℕ
-nibbleCount header payload flag = length header + dataNibbles (length payload) flag
-
 -- header nibbles, and a payload, that a frame can have
 pub record Sendable (header payload : List ℕ) : Type 0 where
   pub nibbles : (i : ℕ) → getD header i 0 < 16

@@ -4,12 +4,10 @@ use mathlib.Core.Bool.{Bool}
 use mathlib.Core.List.{List}
 use Prim.Native.Nat.{ℕ, _+_, _-_}
 use lib.ListN.{getD}
-use Rattle.bits.specs.Tab.{tab}
 use Rattle.block.specs.Block.{symbolOfCodewords}
 use Rattle.codeword.specs.Codeword.{codeword}
-use Rattle.layout.specs.Layout.{blockOf, blockOfSymbol, symbolCount}
+use Rattle.layout.specs.Layout.{blockOf, blockOfSymbol}
 use Rattle.layout.specs.declared.Block.{Block}
-use Rattle.coding.specs.Nibbles.{frameNibble, nibbleCount}
 
 -- codeword i of a block: that of the frame's nibble of the same number
 unfoldable pub codewordInBlock : Block → (ℕ → ℕ) → ℕ → ℕ
@@ -24,11 +22,6 @@ unfoldable pub symbolAt : ℕ → Bool → ℕ → (ℕ → ℕ) → ℕ → ℕ
 symbolAt sf low cr nibble t =
     let B : Block = blockOf sf low cr (blockOfSymbol cr t) in
     symbolInBlock B nibble (t - B .first)
-
--- all the symbols of a frame
-unfoldable pub frameSymbols : ℕ → Bool → ℕ → List ℕ → List ℕ → Bool → List ℕ
-frameSymbols sf low cr header payload flag =
-    tab (symbolCount sf low cr (nibbleCount header payload flag)) (symbolAt sf low cr (frameNibble header payload flag))
 
 -- symbol j of a block whose codewords are listed
 unfoldable pub columnOf : Block → List ℕ → ℕ → ℕ
