@@ -1,14 +1,12 @@
 -- Numbers assembled from bits, and lists from functions.
 -- Assumes nothing.
-use mathlib.Core.Path.{_≡_, refl, sym, ap, ap₂, _∙_, subst, fun-ext}
+use mathlib.Core.Path.{_≡_, refl, sym, ap, ap₂, _∙_}
 use Prim.Native.Nat.{ℕ, zero, suc, _+_, _-_, _*_, _/_, _%_, _^_, _≤_, _<_, suc-le-suc}
 use native.Mathlib.Nat.{not-suc-le-zero, le-of-suc-le-suc, zero-lt-suc, mod-lt, pow-suc, div-add-mod', mul-assoc, zero-add, lt-of-lt-of-le, add-mod-mod, mul-add-mod-self-right, add-mod-right, mod-eq-of-lt}
 use native.Mathlib.Numerals.{one-add}
 use native.Mathlib.Omega.{arith}
-use mathlib.Core.List.{List, [], _∷_}
 use lib.Pow.{shr-shr, pow-mono}
 use lib.Arith.{lt-one}
-use lib.ListN.{length, getD}
 use Rattle.bits.specs.Bit.{bit, number}
 
 pub half-pow : (w k : ℕ) → w / 2 ^ suc k ≡ w / 2 / 2 ^ k

@@ -1,12 +1,12 @@
 -- What a loop that fills a list by a rule keeps.
 -- Assumes nothing.
-use mathlib.Core.Path.{_≡_, refl, sym, ap, _∙_}
+use mathlib.Core.Path.{_≡_, refl, ap, _∙_}
 use mathlib.Core.List.{List}
-use Prim.Native.Nat.{ℕ, zero, suc, _+_, _<_, _≤_}
+use Prim.Native.Nat.{ℕ, _+_, _<_, _≤_}
 use native.Mathlib.Omega.{arith}
 use lib.ListN.{length, getD, set, length-set}
 use Rattle.bits.specs.Tab.{over, overAt}
-use Rattle.bits.proofs.Tabs.{over-none, over-more, getD-over-rest, overAt-none, overAt-more, length-over, over-on}
+use Rattle.bits.proofs.Tabs.{over-none, over-more, getD-over-rest, overAt-none, overAt-more, overAt-on, length-over, length-overAt, over-on}
 
 -- l is d with its first n cells by the rule f
 pub record Filled {A : Type 0} (f : ℕ → A) (d : List A) (n : ℕ) (l : List A) : Type 0 where
@@ -49,6 +49,13 @@ module _ {A : Type 0} where
       → FilledAt f d at (n + 1) (set l (at + n) x)
   filledAt-more {f} {d} {at} {n} {l} {x} p h q =
       record { is = rw (p .is, q) (overAt-more at n f d h); long = length-set l (at + n) x ∙ p .long; within = omega arith }
+
+  -- a piece of m cells more
+  pub filledAt-on : {f g : ℕ → A} {d : List A} {at n m : ℕ} {l k : List A} → FilledAt f d at n l → at + n + m ≤ length d → k ≡ overAt (at + n) m g l
+      → ((i : ℕ) → i < m → g i ≡ f (n + i)) → FilledAt f d at (n + m) k
+  filledAt-on {f} {g} {d} {at} {n} {m} {l} {k} p h q e =
+      let is : k ≡ overAt at (n + m) f d = q ∙ ap (λ (x : List A). overAt (at + n) m g x) (p .is) ∙ overAt-on at n m f g d h e in
+      record { is = is; long = ap length is ∙ length-overAt at (n + m) f d (omega arith); within = omega arith }
 
   pub filledAt-end : {f : ℕ → A} {d : List A} {at m n : ℕ} {l : List A} → FilledAt f d at m l → m ≡ n → l ≡ overAt at n f d
   filledAt-end {f} {d} p e = rw e at (p .is)

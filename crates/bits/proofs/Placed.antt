@@ -5,8 +5,7 @@ use mathlib.Core.List.{List, [], _∷_, _++_, append-assoc}
 use Prim.Native.Nat.{ℕ, _+_, _<_, _≤_}
 use native.Mathlib.Nat.{add-zero, add-assoc}
 use native.Mathlib.Numerals.{add-one}
-use native.Mathlib.Omega.{arith}
-use lib.ListN.{length, take, drop, set, length-append, length-drop, take-append-drop}
+use lib.ListN.{length, take, drop, set, length-append, take-append-drop}
 use lib.Seq.{length-take-le, take-at, drop-append-add, drop-drop, set-split}
 use Rattle.bits.specs.Tab.{placed}
 
@@ -18,10 +17,6 @@ module _ {A : Type 0} where
   -- one cell placed is one store
   pub placed-one : (at : ℕ) (a : A) (d : List A) → at < length d → set d at a ≡ placed at (a ∷ []) d
   placed-one at a d h = rw add-one (set-split d at a h)
-
-  -- what is placed within a list keeps its length
-  pub length-placed : (at : ℕ) (l d : List A) → at + length l ≤ length d → length (placed at l d) ≡ length d
-  length-placed at l d h = simp (length-append, length-take-le at d (omega arith), length-drop) (omega arith)
 
   -- a list placed behind another is the two placed as one
   pub placed-placed : (at : ℕ) (l m d : List A) → at ≤ length d → placed (at + length l) m (placed at l d) ≡ placed at (l ++ m) d

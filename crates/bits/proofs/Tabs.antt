@@ -4,11 +4,11 @@ use mathlib.Core.Path.{_≡_, refl, sym, ap, _∙_}
 use mathlib.Core.List.{List, [], _∷_, _++_, append-assoc, append-nil}
 use mathlib.Core.Logic.{⊎-elim}
 use Prim.Native.Nat.{ℕ, zero, suc, _+_, _-_, _<_, _≤_}
-use native.Mathlib.Nat.{add-zero, zero-add, add-suc, not-suc-le-zero, eq-or-lt-of-le, le-of-suc-le-suc}
+use native.Mathlib.Nat.{add-zero, add-suc, not-suc-le-zero, eq-or-lt-of-le, le-of-suc-le-suc}
 use native.Mathlib.Numerals.{add-one}
 use native.Mathlib.Omega.{arith}
-use lib.ListN.{length-set, length, getD, take, drop, set, length-append, length-take, length-drop, drop-of-length-le, take-append-drop, length-replicate, getD-replicate, List·getD-append}
-use lib.Seq.{getD-append-add, getD-drop, drop-cons, set-at, getD-at, length-take-le, ext-getD, drop-at, take-at, take-append-le, drop-append-le}
+use lib.ListN.{length, getD, take, drop, set, length-append, length-drop, drop-of-length-le, take-append-drop, length-replicate, getD-replicate, List·getD-append}
+use lib.Seq.{getD-append-add, getD-drop, drop-cons, set-at, getD-at, length-take-le, ext-getD, take-at, drop-drop, drop-at}
 use Rattle.bits.specs.Tab.{tab, over, overAt, blank}
 
 module _ {A : Type 0} where
@@ -90,6 +90,31 @@ module _ {A : Type 0} where
       (set-at (take at d ++ tab n f) _ (drop (suc (at + n)) d) (f n) (at + n) long ∙ simp append-assoc)
 
   -- a list filled to n, filled on from there
+  pub length-overAt : (at n : ℕ) (f : ℕ → A) (d : List A) → at + n ≤ length d → length (overAt at n f d) ≡ length d
+  length-overAt at n f d h = simp (length-append, length-take-le at d (omega arith), length-tab, length-drop) (omega arith)
+
+  pub overAt-on : (at n m : ℕ) (f g : ℕ → A) (d : List A) → at + n + m ≤ length d → ((i : ℕ) → i < m → g i ≡ f (n + i))
+      → overAt (at + n) m g (overAt at n f d) ≡ overAt at (n + m) f d
+  overAt-on at n m f g d h e = ap (λ (x : List A). overAt (at + n) m g x) split ∙ rw (begin, rest, tab-cong m g _ e, tab-add n m f) (simp append-assoc)
+    where
+      front : List A
+      front = take at d ++ tab n f
+
+      split : overAt at n f d ≡ front ++ drop (at + n) d
+      split = sym (append-assoc (take at d) (tab n f) (drop (at + n) d))
+
+      long : length front ≡ at + n
+      long = simp (length-append, length-take-le at d (omega arith), length-tab)
+
+      begin : take (at + n) (front ++ drop (at + n) d) ≡ front
+      begin = take-at front (drop (at + n) d) (at + n) long
+
+      rest : drop (at + n + m) (front ++ drop (at + n) d) ≡ drop (at + (n + m)) d
+      rest =
+          let s : at + n + m ≡ at + (n + m) = omega arith in
+          sym (drop-drop m (at + n) (front ++ drop (at + n) d)) ∙ ap (drop m) (drop-at front (drop (at + n) d) (at + n) long)
+          ∙ drop-drop m (at + n) d ∙ ap (λ (x : ℕ). drop x d) s
+
   pub over-on : (n m : ℕ) (f g : ℕ → A) (d : List A) → n + m ≤ length d → ((i : ℕ) → i < m → g i ≡ f (n + i)) → overAt n m g (over n f d) ≡ over (n + m) f d
   over-on n m f g d h e =
       rw (take-at (tab n f) (drop n d) n (length-tab n f), ext-drop, tab-cong m g _ e, tab-add n m f)

@@ -1,6 +1,6 @@
 -- The first place at which a test holds, and the number of places at which it holds.
 -- Assumes nothing.
-use mathlib.Core.Bool.{Bool, true, false}
+use mathlib.Core.Bool.{Bool}
 use Prim.Native.Nat.{ℕ, zero, suc, _+_}
 use Rattle.bits.specs.Bit.{asBit}
 use Rattle.bits.specs.Pick.{pick}

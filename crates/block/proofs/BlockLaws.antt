@@ -9,15 +9,14 @@ use native.Mathlib.Omega.{arith}
 use lib.Dec.{eqb}
 use lib.ListN.{getD}
 use borrow.Author.Tests.{eqb-true, eq-eqb}
-use Rattle.bits.specs.Bit.{bit, number, isSet, asBit}
+use Rattle.bits.specs.Bit.{bit, isSet, asBit}
 use Rattle.bits.specs.Pick.{pick}
 use Rattle.bits.specs.Search.{howMany}
 use Rattle.bits.proofs.Bits.{bit-lt, bit-number, number-lt, number-cong, turn, same-bits}
 use Rattle.bits.proofs.Tabs.{getD-over}
 use Rattle.bits.proofs.Searches.{howMany-mono}
-use Rattle.block.specs.Gray.{valueOfWord, numberOfValue}
 use Rattle.block.specs.Block.{wordOfCodewords, symbolOfCodewords, placeInWord, wordOfNumber, received}
-use Rattle.block.specs.Grid.{row, grid, cell, gridOfCodewords, wordOfGrid, wordsOfGrid, gridOfWords, codewordOfGrid, codewordsOfGrid}
+use Rattle.block.specs.Grid.{row, grid, cell, wordOfGrid, gridOfWords, codewordOfGrid}
 use Rattle.block.proofs.GrayLaws.{word-of-value-of-word, value-lt, value-of-number-of-value, number-of-value-lt}
 
 -- a symbol word has n bits
@@ -67,28 +66,11 @@ pub received-lt : (n columns : ℕ) (wide : Bool) (s : ℕ → ℕ) (i : ℕ) �
 unfolding received
 received-lt n columns wide s i = number-lt columns _ (λ k. bit-lt _ _)
 
--- symbols that agree in the block's columns give the same codewords
-pub received-cong : (n columns : ℕ) (wide : Bool) (s t : ℕ → ℕ) (i : ℕ) → ((j : ℕ) → j < columns → s j ≡ t j)
-    → received n columns wide s i ≡ received n columns wide t i
-unfolding received
-received-cong n columns wide s t i e = number-cong columns _ _ (λ j h. ap (λ (x : ℕ). bit (placeInWord n i j) (wordOfNumber wide x)) (e j h))
-
 -- a codeword whose symbols all come through comes back
 pub read-back : (n columns : ℕ) (wide : Bool) (c s : ℕ → ℕ) (i : ℕ) → i < n → c i < 2 ^ columns
     → ((j : ℕ) → j < columns → s j ≡ symbolOfCodewords n wide c j) → received n columns wide s i ≡ c i
 read-back n columns wide c s i hi small e =
     same-bits columns _ _ (received-lt n columns wide s i) small (λ j hj. local n columns wide c s i j hi hj (e j hj))
-
--- codewords that agree in the block's rows give the same symbol words
-pub word-cong : (n : ℕ) (c d : ℕ → ℕ) (j : ℕ) → ((i : ℕ) → i < n → c i ≡ d i) → wordOfCodewords n c j ≡ wordOfCodewords n d j
-unfolding wordOfCodewords
-word-cong n c d j e = number-cong n _ _ (λ k h. ap (bit j) (e ((j + k) % n) (mod-lt (j + k) (omega arith))))
-
--- and the same symbols
-pub symbol-cong : (n : ℕ) (wide : Bool) (c d : ℕ → ℕ) (j : ℕ) → ((i : ℕ) → i < n → c i ≡ d i)
-    → symbolOfCodewords n wide c j ≡ symbolOfCodewords n wide d j
-unfolding symbolOfCodewords
-symbol-cong n wide c d j e = ap (λ (w : ℕ). numberOfValue wide (valueOfWord n w)) (word-cong n c d j e)
 
 -- a bit comes back from its truth value
 pub as-bit-is-set : (b : ℕ) → b < 2 → asBit (isSet b) ≡ b
@@ -103,28 +85,18 @@ cell-grid n columns b i j hi hj =
     ap (λ (r : List Bool). getD r j false) (getD-over n (λ i. row columns (b i)) _ i [] hi) ∙ getD-over columns (b i) _ j false hj
 
 -- symbol word j, by way of the grid
-pub words-of-codewords : (n columns : ℕ) (cws : List ℕ) (j : ℕ) → j < columns
-    → getD (wordsOfGrid n columns (gridOfCodewords n columns cws)) j 0 ≡ wordOfCodewords n (λ i. getD cws i 0) j
-unfolding wordsOfGrid wordOfGrid gridOfCodewords wordOfCodewords
-words-of-codewords n columns cws j hj =
-    getD-over columns (wordOfGrid n (gridOfCodewords n columns cws)) _ j 0 hj
-    ∙ number-cong n _ _ (λ k h. ap asBit (cell-grid n columns _ ((j + k) % n) j (mod-lt (j + k) (omega arith)) hj) ∙ as-bit-is-set _ (bit-lt j _))
+pub word-through-grid : (n columns : ℕ) (c : ℕ → ℕ) (j : ℕ) → j < columns
+    → wordOfGrid n (grid n columns (λ i k. isSet (bit k (c i)))) j ≡ wordOfCodewords n c j
+unfolding wordOfGrid wordOfCodewords
+word-through-grid n columns c j hj =
+    number-cong n _ _ (λ k h. ap asBit (cell-grid n columns _ ((j + k) % n) j (mod-lt (j + k) (omega arith)) hj) ∙ as-bit-is-set _ (bit-lt j _))
 
--- codeword i, by way of the grid
-pub codewords-of-words : (n columns : ℕ) (ws : List ℕ) (i : ℕ) → i < n
-    → getD (codewordsOfGrid n columns (gridOfWords n columns ws)) i 0 ≡ number columns (λ j. bit (placeInWord n i j) (getD ws j 0))
-unfolding codewordsOfGrid codewordOfGrid gridOfWords
-codewords-of-words n columns ws i hi =
-    getD-over n (codewordOfGrid columns (gridOfWords n columns ws)) _ i 0 hi
-    ∙ number-cong columns _ _ (λ j h. ap asBit (cell-grid n columns _ i j hi h) ∙ as-bit-is-set _ (bit-lt (placeInWord n i j) _))
-
--- from the words that the symbols are read as, the codewords as received
-pub codewords-received : (n columns : ℕ) (wide : Bool) (s : ℕ → ℕ) (ws : List ℕ) (i : ℕ) → i < n
-    → ((j : ℕ) → j < columns → getD ws j 0 ≡ wordOfNumber wide (s j))
-    → getD (codewordsOfGrid n columns (gridOfWords n columns ws)) i 0 ≡ received n columns wide s i
-unfolding received
-codewords-received n columns wide s ws i hi e =
-    codewords-of-words n columns ws i hi ∙ number-cong columns _ _ (λ j h. ap (bit (placeInWord n i j)) (e j h))
+-- codeword i, by way of the grid, from the words that the symbols are read as
+pub codeword-through-grid : (n columns : ℕ) (wide : Bool) (s : ℕ → ℕ) (ws : List ℕ) (i : ℕ) → i < n
+    → ((j : ℕ) → j < columns → getD ws j 0 ≡ wordOfNumber wide (s j)) → codewordOfGrid columns (gridOfWords n columns ws) i ≡ received n columns wide s i
+unfolding codewordOfGrid gridOfWords received
+codeword-through-grid n columns wide s ws i hi e =
+    number-cong columns _ _ (λ j h. ap asBit (cell-grid n columns _ i j hi h) ∙ as-bit-is-set _ (bit-lt (placeInWord n i j) _) ∙ ap (bit (placeInWord n i j)) (e j h))
 
 -- if equal x and y make a and b equal, then unequal a and b make x and y unequal
 not-eqb-mono : (a b x y : ℕ) → (x ≡ y → a ≡ b) → not (eqb a b) ≡ true → not (eqb x y) ≡ true

@@ -1,13 +1,12 @@
 -- The Gray step and its inverse.
 -- Assumes nothing.
-use mathlib.Core.Path.{_≡_, refl, sym, ap, _∙_}
+use mathlib.Core.Path.{_≡_, refl, sym, ap}
 use mathlib.Core.Bool.{Bool, true, false}
 use Prim.Native.Nat.{ℕ, zero, suc, _+_, _*_, _/_, _%_, _^_, _<_}
 use native.Mathlib.Nat.{mod-lt, div-one, div-add-mod', pow-suc, zero-lt-suc}
 use native.Mathlib.Omega.{arith}
 use lib.Arith.{lt-one, bin-ind}
 use lib.Pow.{pow-add}
-use lib.Bits.{bitXor}
 use lib.Count.{ones, ones-step}
 use Rattle.bits.specs.Bit.{number}
 use Rattle.bits.specs.Pick.{pick}

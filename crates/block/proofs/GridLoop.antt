@@ -1,18 +1,19 @@
 -- The rules by which the loops over a grid fill and build.
 -- Assumes nothing.
-use mathlib.Core.Path.{_≡_, sym, ap, _∙_}
-use mathlib.Core.Bool.{Bool, false}
+use mathlib.Core.Path.{_≡_, refl, sym, ap, _∙_}
+use mathlib.Core.Bool.{Bool, true, false}
 use mathlib.Core.List.{List, []}
-use Prim.Native.Nat.{ℕ, _+_, _-_, _*_, _%_, _^_, _≤_, _<_}
+use Prim.Native.Nat.{ℕ, _+_, _-_, _*_, _/_, _%_, _^_, _≤_, _<_}
 use native.Mathlib.Nat.{mod-eq-of-lt, mod-eq-sub-mod, mod-lt, add-mod-mod}
 use native.Mathlib.Omega.{arith}
+use native.Mathlib.Decide.{decLt}
 use lib.Pow.{pow-pos}
 use lib.ListN.{getD}
 use Rattle.bits.specs.Bit.{bit, number, isSet, asBit}
 use Rattle.bits.specs.Tab.{tab, over, blank}
-use Rattle.bits.proofs.Bits.{bit-lt, bit-number, number-cong, number-start, number-back, number-end, number-small}
+use Rattle.bits.proofs.Bits.{bit-lt, bit-number, number-lt, number-cong, number-start, number-back, number-end, number-small}
 use Rattle.bits.proofs.Searches.{asBit-le}
-use Rattle.bits.proofs.Tabs.{getD-blank, getD-over, getD-over-rest, over-cong}
+use Rattle.bits.proofs.Tabs.{getD-blank, getD-over, getD-over-rest, over-cong, over-none}
 use Rattle.block.specs.Block.{placeInWord}
 use Rattle.block.specs.Grid.{row, grid, cell, wordOfGrid, wordsOfGrid, gridOfWords, codewordOfGrid}
 use Rattle.block.proofs.TurnLaws.{bit-mod, bit-above, number-cut, over-blank}
@@ -20,24 +21,6 @@ use Rattle.block.proofs.TurnLaws.{bit-mod, bit-above, number-cut, over-
 -- a place once round
 pub once : (n at : ℕ) → n ≤ at → at < 2 * n → at % n ≡ at - n
 once n at low high = mod-eq-sub-mod low ∙ mod-eq-of-lt (omega arith)
-
--- a number of n bits by the rule f, as a loop builds it whose k falls from n to 0
-pub record Built (f : ℕ → ℕ) (n k w : ℕ) : Type 0 where
-  pub is : w ≡ number (n - k) (λ i. f (k + i))
-  pub within : k ≤ n
-
-pub built-start : (f : ℕ → ℕ) (n : ℕ) → Built f n n 0
-built-start f n = record { is = number-start f n; within = omega arith }
-
-pub built-back : {f : ℕ → ℕ} {n k w b : ℕ} → Built f n k w → 0 < k → b ≡ f (k - 1) → Built f n (k - 1) (w * 2 + b)
-built-back {f} {n} {k} {w} {b} p pos e =
-    record { is = ap (λ (x : ℕ). w * 2 + x) e ∙ number-back f n k w pos (p .within) (p .is); within = omega arith }
-
-pub built-end : {f : ℕ → ℕ} {n k w : ℕ} → Built f n k w → k ≡ 0 → w ≡ number n f
-built-end {f} {n} {k} p e = p .is ∙ number-end f n k e
-
-pub built-small : {f : ℕ → ℕ} {n k w : ℕ} → Built f n k w → ((k : ℕ) → f k < 2) → (m : ℕ) → n - k ≤ m → w < 2 ^ m
-built-small {f} {n} {k} p b m h = rw (p .is) (number-small _ (n - k) m h (λ i. b (k + i)))
 
 -- the cells of a row, and the rows, by name
 unfoldable pub cellOfCodeword : ℕ → ℕ → Bool
@@ -52,13 +35,25 @@ cellOfColumns plain i j = isSet (bit i (getD plain j 0))
 asBit-lt : (b : Bool) → asBit b < 2
 asBit-lt b = omega (arith, asBit-le b)
 
--- the bits of a row, by name
-unfoldable pub bitOfRow : List Bool → ℕ → ℕ
-bitOfRow r j = asBit (getD r j false)
-
-pub bitOfRow-lt : (r : List Bool) (j : ℕ) → bitOfRow r j < 2
-unfolding bitOfRow
-bitOfRow-lt r j = omega (arith, asBit-le (getD r j false))
+-- four bits, eight places apart, brought together by a product
+pub gathered : (a b c d : Bool)
+    → (asBit a + 256 * asBit b + 65536 * asBit c + 16777216 * asBit d) * 16909320 / 16777216 % 16 ≡ asBit a + 2 * asBit b + 4 * asBit c + 8 * asBit d
+gathered true true true true = refl
+gathered true true true false = refl
+gathered true true false true = refl
+gathered true true false false = refl
+gathered true false true true = refl
+gathered true false true false = refl
+gathered true false false true = refl
+gathered true false false false = refl
+gathered false true true true = refl
+gathered false true true false = refl
+gathered false true false true = refl
+gathered false true false false = refl
+gathered false false true true = refl
+gathered false false true false = refl
+gathered false false false true = refl
+gathered false false false false = refl
 
 -- column j with the bit of a row more
 unfoldable pub longer : List ℕ → List Bool → ℕ → ℕ
@@ -136,11 +131,15 @@ column-turned n j ws e p = rw e at p
 unfoldable pub rowOfColumns : List ℕ → ℕ → List Bool
 rowOfColumns plain i = row 8 (λ j. isSet (bit i (getD plain j 0)))
 
-pub rows-of-columns : (n columns : ℕ) (ws : List ℕ) {plain : List ℕ} → columns ≤ 8 → plain ≡ over columns (λ j. number n (λ i. bit (placeInWord n i j) (getD ws j 0))) (blank 8 0)
-    → over n (rowOfColumns plain) (blank 12 (blank 8 false)) ≡ gridOfWords n columns ws
+pub rows-of-columns : (n columns : ℕ) (ws : List ℕ) {plain : List ℕ} → n ≤ 12 → columns ≤ 8 → plain ≡ over columns (λ j. number n (λ i. bit (placeInWord n i j) (getD ws j 0))) (blank 8 0)
+    → over 12 (rowOfColumns plain) (blank 12 (blank 8 false)) ≡ gridOfWords n columns ws
 unfolding gridOfWords grid rowOfColumns row
-rows-of-columns n columns ws {plain} h p =
-    over-cong n _ _ (blank 12 (blank 8 false)) (λ i l. over-blank columns 8 _ _ false h (λ j s. ap isSet (inside i l j s)) (λ j s t. ap isSet (outside i j s t)))
+rows-of-columns n columns ws {plain} most h p =
+    over-blank n 12 _ _ (blank 8 false) most
+    (λ i l. over-blank columns 8 _ _ false h (λ j s. ap isSet (inside i l j s)) (λ j s t. ap isSet (outside i j s t)))
+    (λ i l u.
+    over-blank 0 8 _ (λ j. false) false (omega arith) (λ j s. absurd (omega arith)) (λ j s t. ap isSet (above i l j t (decLt j columns)))
+    ∙ sym (over-none (λ j. false) (blank 8 false)))
   where
     f : ℕ → ℕ → ℕ
     f j i = bit (placeInWord n i j) (getD ws j 0)
@@ -150,3 +149,7 @@ rows-of-columns n columns ws {plain} h p =
 
     outside : (i j : ℕ) → columns ≤ j → j < 8 → bit i (getD plain j 0) ≡ 0
     outside i j s t = rw (p, getD-over-rest columns (λ j. number n (f j)) (blank 8 0) j 0 s, getD-blank {A = ℕ} 8 j 0 0 t) (bit-above 0 0 i (omega arith) (omega arith))
+
+    above : (i : ℕ) → n ≤ i → (j : ℕ) → j < 8 → Dec (j < columns) → bit i (getD plain j 0) ≡ 0
+    above i l j t (yes s) = rw (p, getD-over columns (λ j. number n (f j)) (blank 8 0) j 0 s) (bit-above n _ i l (number-lt n (f j) (λ k. bit-lt _ _)))
+    above i l j t (no s) = outside i j (omega arith) t

@@ -2,7 +2,7 @@
 -- A block has n rows, one for each codeword.
 -- Assumes nothing.
 use mathlib.Core.Bool.{Bool}
-use Prim.Native.Nat.{ℕ, _+_, _-_, _*_, _%_}
+use Prim.Native.Nat.{ℕ, _+_, _-_, _%_}
 use Rattle.bits.specs.Bit.{bit, number}
 use Rattle.block.specs.Gray.{valueOfWord, wordOfValue, numberOfValue, valueOfNumber}
 

@@ -1,7 +1,7 @@
 -- Document 01, "A block is a grid of N rows by CR + 4 columns of bits": the grid between coding and the diagonal step.
 -- An array of 12 rows of 8 bits; those outside the block are false.
 -- Assumes nothing.
-use mathlib.Core.Bool.{Bool, true, false}
+use mathlib.Core.Bool.{Bool, false}
 use mathlib.Core.List.{List, []}
 use Prim.Native.Nat.{ℕ, _+_, _%_, _≤_}
 use lib.ListN.{getD}

@@ -7,7 +7,7 @@ ghost use Rattle.bits.specs.Bit.{bit, number, isSet, asBit};
 ghost use Rattle.bits.specs.Tab.{over, blank};
 ghost use Rattle.block.specs.Gray.{valueOfWord, wordOfValue, numberOfValue, valueOfNumber};
 ghost use Rattle.block.specs.Block.{placeInWord, wordOfNumber};
-ghost use Rattle.block.specs.Grid.{Size, row, cell, gridOfCodewords, wordsOfGrid, gridOfWords, codewordsOfGrid};
+ghost use Rattle.block.specs.Grid.{Size, row, cell, gridOfCodewords, wordsOfGrid, gridOfWords, codewordOfGrid, codewordsOfGrid};
 
 pub fn value_of_word(n: usize, w: u16) -> u16
     requires { ⌜ (n ≤ 12) × (w < 2 ^ n) ⌝ }
@@ -155,38 +155,50 @@ fn columns_of_words(n: usize, columns: usize, words: [u16; 8]) -> [u16; 8]
 }
 
 // Row i: one bit of each column.
-fn set_row(plain: [u16; 8], i: usize, cells: &mut [bool; 8])
+fn set_row(plain: &[u16; 8], i: usize, cells: &mut [bool; 8])
     requires { ⌜ (i < 12) × (length (now cells) ≡ 8) ⌝ }
-    ensures { λ _. ⌜ now (cells .exit) ≡ row 8 (λ j. isSet (bit i (getD plain j 0))) ⌝ }
+    ensures { λ _. ⌜ now (cells .exit) ≡ row 8 (λ j. isSet (bit i (getD (now (plain .entry)) j 0))) ⌝ }
 {
     for j in 0..8usize {
         cells[j] = (plain[j] >> i) % 2 == 1;
     }
 }
 
+// A column has no bits above the block's rows, so the loop can run over all 12, and the compiler unrolls it.
 pub fn grid_of_words(n: usize, columns: usize, words: [u16; 8]) -> [[bool; 8]; 12]
     requires { ⌜ Size n columns ⌝ }
     ensures { λ r. ⌜ r ≡ gridOfWords n columns words ⌝ }
 {
     let plain = columns_of_words(n, columns, words);
     let mut g = [[false; 8]; 12];
-    for i in 0..n {
-        set_row(plain, i, &mut g[i]);
+    for i in 0..12usize {
+        set_row(&plain, i, &mut g[i]);
     }
     g
 }
 
-// The bits of a row, from the highest.
+// Four cells as a number, the first lowest. Cell k stands at bit 8 k; a product with 2^24 + 2^17 + 2^10 + 2^3 brings it to
+// bit 24 + k, and none of the other terms to there.
+fn four(a: bool, b: bool, c: bool, d: bool) -> u8
+    ensures { λ r. ⌜ (r ≡ asBit a + 2 * asBit b + 4 * asBit c + 8 * asBit d) × (r < 16) ⌝ }
+{
+    let cells = a as u64 + 256 * (b as u64) + 65536 * (c as u64) + 16777216 * (d as u64);
+    (cells * 16909320 / 16777216 % 16) as u8
+}
+
+// The bits of a row.
 fn codeword_of_row(row: &[bool; 8]) -> u8
     ensures { λ r. ⌜ r ≡ number 8 (λ j. asBit (getD (now (row .entry)) j false)) ⌝ }
 {
-    let mut codeword: u8 = 0;
-    let mut j: usize = 8;
-    while j > 0 {
-        j -= 1;
-        codeword = codeword * 2 + row[j] as u8;
-    }
-    codeword
+    four(row[0], row[1], row[2], row[3]) + 16 * four(row[4], row[5], row[6], row[7])
+}
+
+// Codeword i of a grid, which is lent: a caller that takes them one by one needs no list of them.
+pub fn codeword_of_grid(columns: usize, g: &[[bool; 8]; 12], i: usize) -> u8
+    requires { ⌜ (columns ≤ 8) × (i < 12) ⌝ }
+    ensures { λ r. ⌜ r ≡ codewordOfGrid columns (now (g .entry)) i ⌝ }
+{
+    low_bits(columns, codeword_of_row(&g[i]))
 }
 
 pub fn codewords_of_grid(n: usize, columns: usize, g: [[bool; 8]; 12]) -> [u8; 12]
@@ -195,7 +207,7 @@ pub fn codewords_of_grid(n: usize, columns: usize, g: [[bool; 8]; 12]) -> [u8; 1
 {
     let mut codewords = [0u8; 12];
     for i in 0..n {
-        codewords[i] = low_bits(columns, codeword_of_row(&g[i]));
+        codewords[i] = codeword_of_grid(columns, &g, i);
     }
     codewords
 }

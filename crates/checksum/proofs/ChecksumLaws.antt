@@ -10,7 +10,7 @@ use native.Mathlib.Omega.{arith}
 use borrow.Author.Tests.{lt-ltb, le-ltb}
 use lib.ListN.{length, getD, drop, drop-of-length-le}
 use lib.Seq.{drop-cons}
-use lib.Arith.{bin-ind, mod-mul}
+use lib.Arith.{mod-mul}
 use lib.Dec.{ltb}
 use lib.Pow.{pow-pos, pow-mono}
 use lib.Bits.{bitXor, xor-shr, xor-zero-r, xor-shifted, xor-block}

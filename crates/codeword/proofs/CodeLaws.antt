@@ -1,17 +1,17 @@
 -- Laws of the code: a codeword's bits, distances, and what a word at each distance from a codeword is read as.
 -- Assumes nothing.
-use mathlib.Core.Path.{_≡_, refl, sym, ap, ap₂, _∙_, subst}
+use mathlib.Core.Path.{_≡_, refl, sym, ap, _∙_, subst}
 use mathlib.Core.Bool.{Bool, true, false, not}
 use Prim.Native.Nat.{ℕ, zero, suc, _+_, _-_, _%_, _^_, _≤_, _<_}
 use native.Mathlib.Nat.{mod-lt, zero-lt-suc}
 use native.Mathlib.Omega.{arith}
 use lib.Dec.{T, eqb, leb, ltb, eqb→eq}
-use borrow.Author.Tests.{eqb-true, eq-eqb, eqb-false, ltb-true, le-leb, lt-leb, not-true, not-false}
+use borrow.Author.Tests.{eqb-true, eq-eqb, ltb-true, le-leb, lt-leb, not-false}
 use Rattle.bits.specs.Bit.{bit, number}
 use Rattle.bits.specs.Pick.{pick}
 use Rattle.bits.specs.Search.{first, howMany}
-use Rattle.bits.proofs.Bits.{bit-lt, bit-number, number-lt, number-bit, number-cong}
-use Rattle.bits.proofs.Searches.{first-found, howMany-none, howMany-zero, howMany-cong, howMany-mono}
+use Rattle.bits.proofs.Bits.{bit-lt, number-lt, number-bit, number-cong}
+use Rattle.bits.proofs.Searches.{first-found, howMany-none, howMany-zero}
 use Rattle.bits.proofs.Every.{both, either, every, at}
 use Rattle.codeword.specs.Codeword.{parity, parityOfAll, parityBit, codewordBit, codeword, apart, nibbleAway, repairOf, readAs, nibbleOf, isUnreadable, Rate}
 use Rattle.codeword.specs.declared.Heard.{Heard}
@@ -46,11 +46,6 @@ pub codeword-lt : (cr d : ℕ) → codeword cr d < 2 ^ (4 + cr)
 unfolding codeword
 codeword-lt cr d = number-lt (4 + cr) (codewordBit cr d) (codewordBit-lt cr d)
 
--- bit j of a codeword is the one that its definition names
-pub bit-codeword : (cr d j : ℕ) → j < 4 + cr → bit j (codeword cr d) ≡ codewordBit cr d j
-unfolding codeword
-bit-codeword cr d j h = bit-number (4 + cr) (codewordBit cr d) (codewordBit-lt cr d) j h
-
 -- a codeword's low four bits are its nibble
 lows : T (every 4 (λ r. every 16 (λ d. eqb (codeword (suc r) d % 16) d)))
 unfolding every both codeword codewordBit parityBit parityOfAll parity bit number
@@ -81,16 +76,6 @@ apart-bits cr v w e j h = eqb-true (bit j v) (bit j w) (not-false _ (howMany-zer
 pub apart-zero : (cr v w : ℕ) → v < 2 ^ (4 + cr) → w < 2 ^ (4 + cr) → apart cr v w ≡ 0 → v ≡ w
 apart-zero cr v w hv hw e =
     sym (number-bit (4 + cr) v hv) ∙ number-cong (4 + cr) (λ j. bit j v) (λ j. bit j w) (apart-bits cr v w e) ∙ number-bit (4 + cr) w hw
-
--- words with the same bits are equally far apart
-pub apart-cong : (cr v w x y : ℕ) → ((j : ℕ) → j < 4 + cr → bit j v ≡ bit j x) → ((j : ℕ) → j < 4 + cr → bit j w ≡ bit j y) → apart cr v w ≡ apart cr x y
-unfolding apart
-apart-cong cr v w x y e f = howMany-cong _ _ (4 + cr) (λ j h. ap₂ (λ (a b : ℕ). not (eqb a b)) (e j h) (f j h))
-
--- where two words differ only at bits at which q holds, they are no further apart than q has bits
-pub apart-le : (cr v w : ℕ) (q : ℕ → Bool) → ((j : ℕ) → j < 4 + cr → (bit j v ≡ bit j w → ⊥) → q j ≡ true) → apart cr v w ≤ howMany q (4 + cr)
-unfolding apart
-apart-le cr v w q f = howMany-mono _ q (4 + cr) (λ j h t. f j h (eqb-false (bit j v) (bit j w) (not-true _ t)))
 
 -- readings
 

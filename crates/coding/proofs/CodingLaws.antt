@@ -1,6 +1,6 @@
 -- A frame's nibbles are nibbles, and its symbols are those of its blocks.
 -- Assumes nothing.
-use mathlib.Core.Path.{_≡_}
+use mathlib.Core.Path.{_≡_, ap}
 use mathlib.Core.Bool.{Bool, true, false}
 use mathlib.Core.List.{List}
 use Prim.Native.Nat.{ℕ, zero, suc, _+_, _-_, _/_, _%_, _^_, _≤_, _<_}
@@ -11,9 +11,9 @@ use lib.Dec.{ltb, eqb}
 use lib.ListN.{length, getD}
 use lib.Pow.{pow-mono}
 use Rattle.bits.specs.Pick.{pick}
-use Rattle.bits.specs.Tab.{over, blank}
-use Rattle.bits.proofs.Tabs.{getD-over}
-use Rattle.block.proofs.BlockLaws.{symbol-cong, symbol-lt}
+use Rattle.block.specs.Block.{symbolOfCodewords}
+use Rattle.block.specs.Gray.{valueOfWord, numberOfValue}
+use Rattle.block.proofs.BlockLaws.{symbol-lt, word-through-grid}
 use Rattle.checksum.specs.Checksum.{checksum}
 use Rattle.checksum.proofs.ChecksumLaws.{checksum-lt}
 use Rattle.layout.specs.declared.Block.{Block}
@@ -22,7 +22,8 @@ use Rattle.layout.proofs.LayoutLaws.{symbol-in}
 use Rattle.whitening.specs.Whitening.{whitening}
 use Rattle.whitening.proofs.WhiteningLaws.{whitening-lt}
 use Rattle.coding.specs.Nibbles.{dataByte, halfOf, dataNibble, bodyNibble, nibbleWith, frameNibble, Sendable}
-use Rattle.coding.specs.Symbols.{codewordInBlock, symbolInBlock, symbolAt, columnOf}
+use Rattle.coding.specs.Symbols.{codewordInBlock, symbolInBlock, symbolAt}
+use Rattle.coding.specs.Stages.{gridInBlock, columnOf}
 
 -- a choice between two numbers below n is below n
 pub pick-lt : (t : Bool) {a b n : ℕ} → a < n → b < n → pick t a b < n
@@ -72,12 +73,12 @@ symbol-of-block sf low cr nibble b j v h =
     let e : blockOf sf low cr b .first + j - blockOf sf low cr b .first ≡ j = omega arith in
     rw (symbol-in sf low cr v b j (omega arith), e)
 
--- the symbols of listed codewords, where the list's first are the block's
-pub column-is : (B : Block) (nibble : ℕ → ℕ) (codewords : List ℕ) (j : ℕ)
-    → codewords ≡ over (B .rows) (codewordInBlock B nibble) (blank 12 0) → columnOf B codewords j ≡ symbolInBlock B nibble j
-unfolding columnOf symbolInBlock
-column-is B nibble codewords j e =
-    symbol-cong (B .rows) (B .wide) _ _ j (λ i h. rw e (getD-over (B .rows) (codewordInBlock B nibble) (blank 12 0) i 0 h))
+-- the columns of the grid of a block's codewords are its symbols
+pub column-is : (B : Block) (nibble : ℕ → ℕ) (g : List (List Bool)) (j : ℕ) → g ≡ gridInBlock B nibble → j < 4 + B .rate
+    → columnOf B g j ≡ symbolInBlock B nibble j
+unfolding columnOf gridInBlock symbolInBlock symbolOfCodewords
+column-is B nibble g j e h =
+    rw e (ap (λ (w : ℕ). numberOfValue (B .wide) (valueOfWord (B .rows) w)) (word-through-grid (B .rows) (4 + B .rate) (codewordInBlock B nibble) j h))
 
 -- a block's rows, and two bits more at the four-wide spacing, are at most SF
 pub wide-rows : (sf : ℕ) (low : Bool) (cr b : ℕ) → Valid sf cr → pick (blockOf sf low cr b .wide) (blockOf sf low cr b .rows + 2) (blockOf sf low cr b .rows) ≤ sf

@@ -1,2 +1,3 @@
 pub mod CodingLaws
 pub mod CodingLoop
+pub mod NibbleLaws

@@ -1,2 +1,3 @@
 pub mod Nibbles
+pub mod Stages
 pub mod Symbols

@@ -1,9 +1,7 @@
 -- The symbols of a frame with given nibbles. Document 01, "Blocks, the diagonal and the Gray step".
 -- Assumes nothing.
 use mathlib.Core.Bool.{Bool}
-use mathlib.Core.List.{List}
 use Prim.Native.Nat.{ℕ, _+_, _-_}
-use lib.ListN.{getD}
 use Rattle.block.specs.Block.{symbolOfCodewords}
 use Rattle.codeword.specs.Codeword.{codeword}
 use Rattle.layout.specs.Layout.{blockOf, blockOfSymbol}
@@ -22,7 +20,3 @@ unfoldable pub symbolAt : ℕ → Bool → ℕ → (ℕ → ℕ) → ℕ → ℕ
 symbolAt sf low cr nibble t =
     let B : Block = blockOf sf low cr (blockOfSymbol cr t) in
     symbolInBlock B nibble (t - B .first)
-
--- symbol j of a block whose codewords are listed
-unfoldable pub columnOf : Block → List ℕ → ℕ → ℕ
-columnOf B codewords j = symbolOfCodewords (B .rows) (B .wide) (λ i. getD codewords i 0) j

@@ -106,14 +106,3 @@ says-range h len cr flag small said = go (checksHold h) (zerosHold h) (rateHolds
     go true true false e v = let z : _≡_ {A = ℕ} 0 1 = cc in absurd (omega arith)
     go true false r e v = let z : _≡_ {A = ℕ} 0 1 = cc in absurd (omega arith)
     go false q r e v = let z : _≡_ {A = ℕ} 0 1 = cc in absurd (omega arith)
-
--- a header is refused by 9, 10 or 11
-pub refused-number : (h : List ℕ) (n : ℕ) → verdictOf h ≡ Refused n → (9 ≤ n) × (n ≤ 11)
-unfolding verdictOf
-refused-number h n said = go (checksHold h) (zerosHold h) (rateHolds h) (getD h 0 0 * 16 + getD h 1 0) (getD h 2 0 / 2) (isSet (getD h 2 0 % 2)) said
-  where
-    go : (p q r : Bool) (len cr : ℕ) (flag : Bool) → pick p (pick q (pick r (Says len cr flag) (Refused 11)) (Refused 10)) (Refused 9) ≡ Refused n → (9 ≤ n) × (n ≤ 11)
-    go true true true len cr flag v = let z : _≡_ {A = ℕ} 0 1 = cc in absurd (omega arith)
-    go true true false len cr flag v = let z : 11 ≡ n = cc in omega arith
-    go true false r len cr flag v = let z : 10 ≡ n = cc in omega arith
-    go false q r len cr flag v = let z : 9 ≡ n = cc in omega arith

@@ -1,7 +1,7 @@
 -- Document 01, "Blocks, the diagonal and the Gray step": which codewords and symbols a block has, and how many symbols
 -- a frame has. A frame's nibbles are those of its header and its data, one for each codeword; fillers stand behind them.
 -- Assumes nothing.
-use mathlib.Core.Bool.{Bool, true, false}
+use mathlib.Core.Bool.{Bool, true}
 use Prim.Native.Nat.{ℕ, zero, suc, _+_, _-_, _*_, _/_, _≤_}
 use lib.Dec.{ltb, leb}
 use Rattle.bits.specs.Pick.{pick, both}

@@ -58,15 +58,6 @@ decimalIn-length (suc k) n = go (ltb n 10) (decimalIn-length k (n / 10))
     go true h = omega arith
     go false h = rw length-append (omega arith)
 
--- a number has at least one digit
-pub decimalIn-some : (k n : ℕ) → 1 ≤ length (decimalIn (suc k) n)
-unfolding decimalIn
-decimalIn-some k n = go (ltb n 10)
-  where
-    go : (b : Bool) → 1 ≤ length (pick b ((48 + n) ∷ []) (decimalIn k (n / 10) ++ ((48 + n % 10) ∷ [])))
-    go true = omega arith
-    go false = rw length-append (omega arith)
-
 pub decimal-length : (n : ℕ) → length (decimal n) ≤ 20
 unfolding decimal
 decimal-length n = decimalIn-length 20 n

@@ -1,21 +1,20 @@
 -- What an answer of read tells of its call.
 -- Assumes nothing.
-use mathlib.Core.Path.{_≡_, refl, sym, ap, _∙_}
+use mathlib.Core.Path.{_≡_, refl, _∙_}
 use mathlib.Core.Bool.{Bool, true, false}
 use mathlib.Core.List.{List}
-use Prim.Native.Nat.{ℕ, _+_, _-_, _≤_, _<_}
+use Prim.Native.Nat.{ℕ, _-_, _≤_, _<_}
 use native.Mathlib.Omega.{arith}
 use lib.Dec.{leb}
 use lib.ListN.{length}
 use borrow.Author.Tests.{leb-true, le-leb, lt-leb}
-use Rattle.bits.specs.Pick.{both, check}
+use Rattle.bits.specs.Pick.{check}
 use Rattle.layout.specs.Layout.{validSf}
 use Rattle.lora.specs.Count.{nibblesOf}
 use Rattle.lora.specs.Head.{firstOver, headOf}
 use Rattle.lora.specs.Read.{totalOf, badInData, sumHolds, refusalAt, repairsOf, bodyOf, dataOf, onward, readOf}
 use Rattle.lora.specs.declared.Heading.{Heading}
 use Rattle.lora.specs.declared.Heading.the-variants.{Says, Refused as HeadRefused}
-use Rattle.lora.specs.declared.Received.{Received}
 use Rattle.lora.specs.declared.Received.the-variants.{Payload, Refused}
 
 -- where read accepts, head says the same, and the payload has room

@@ -1,15 +1,15 @@
 -- What the checks of count and airtime leave.
 -- Assumes nothing.
-use mathlib.Core.Path.{_≡_, refl, sym, ap, _∙_}
+use mathlib.Core.Path.{_≡_, refl, ap, _∙_}
 use mathlib.Core.Bool.{Bool, true, false}
-use Prim.Native.Nat.{ℕ, zero, suc, _+_, _*_, _^_, _≤_, _<_}
+use Prim.Native.Nat.{ℕ, zero, suc, _≤_, _<_}
 use native.Mathlib.Omega.{arith}
 use mathlib.Core.List.{List}
-use lib.Dec.{leb, eqb}
+use lib.Dec.{leb}
 use lib.ListN.{length}
-use borrow.Author.Tests.{leb-true, leb-false, eqb-true, eqb-false, le-leb, lt-leb}
-use Rattle.bits.specs.Pick.{pick, both, check}
-use Rattle.layout.specs.Layout.{Valid, validSf, validCr, dataNibbles}
+use borrow.Author.Tests.{leb-true}
+use Rattle.bits.specs.Pick.{both, check}
+use Rattle.layout.specs.Layout.{Valid, validSf, validCr}
 use Rattle.layout.proofs.LayoutLaws.{count-le, data-le}
 use Rattle.lora.specs.declared.Settings.{Settings}
 use Rattle.lora.specs.declared.Counted.{Counted}

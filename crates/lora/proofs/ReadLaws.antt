@@ -44,11 +44,6 @@ module _ {s : Settings} {symbols : List ℕ} {len : ℕ} {nibbles : List ℕ} {e
   run-bad =
       w .walk .ends ∙ first-skip (badAt (heardAt (s .sf) (s .low) (s .cr) symbols)) 5 (dataNibbles len (s .checksum)) 0 (λ k a b. w .headed .read k (omega arith))
 
-  -- which stands behind the header
-  pub run-behind : 5 ≤ end
-  unfolding badInData
-  run-behind = omega (arith, run-bad, first-range (badAt (heardAt (s .sf) (s .low) (s .cr) symbols)) (dataNibbles len (s .checksum)) 5)
-
   -- a run that met none
   module _ (whole : nibblesOf len (s .checksum) ≤ end) where
     -- it ends behind the last codeword

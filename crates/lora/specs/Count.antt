@@ -1,7 +1,6 @@
 -- The operation count. Document 01, "Numbers handed back instead of a result": count checks 1, 2, 3.
 -- Assumes nothing.
 use mathlib.Core.Bool.{Bool}
-use mathlib.Core.Path.{_≡_}
 use Prim.Native.Nat.{ℕ, _+_}
 use lib.Dec.{leb}
 use Rattle.bits.specs.Pick.{check}

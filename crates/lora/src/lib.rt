@@ -1,6 +1,7 @@
 // The five operations offered: code, read, head, count, airtime.
 ghost use mathlib.Core.Path.{_≡_};
 ghost use Prim.Native.Nat.{ℕ, _+_, _-_, _^_, _≤_, _<_};
+ghost use lib.Dec.{leb};
 ghost use lib.ListN.{length, getD};
 ghost use Rattle.bits.specs.Tab.{over};
 ghost use Rattle.header.specs.Header.{headerNibbles};
@@ -188,11 +189,30 @@ pub fn code(s: Settings, payload: &[u8], out: &mut [u16]) -> Counted
     }
 }
 
+// Whether no symbol from the index from on, up to the index end, is 2^SF or more. It looks at all of them, so that the compiler
+// can compare eight at a time.
+fn none_over(sf: u8, symbols: &[u16], from: usize, end: usize) -> bool
+    requires { ⌜ (sf ≤ 12) × (from ≤ end) × (end ≤ length (now symbols)) ⌝ }
+    ensures { λ r. ⌜ r ≡ leb end (firstOver sf (now (symbols .entry)) (end - from) from) ⌝ }
+{
+    let m = limit(sf);
+    let mut none = true;
+    for i in from..end {
+        if symbols[i] >= m {
+            none = false;
+        }
+    }
+    none
+}
+
 // The first symbol from the index from on, up to the index end, that is 2^SF or more; else end.
 fn first_over(sf: u8, symbols: &[u16], from: usize, end: usize) -> usize
     requires { ⌜ (sf ≤ 12) × (from ≤ end) × (end ≤ length (now symbols)) ⌝ }
     ensures { λ r. ⌜ r ≡ firstOver sf (now (symbols .entry)) (end - from) from ⌝ }
 {
+    if none_over(sf, symbols, from, end) {
+        return end;
+    }
     let m = limit(sf);
     let mut i = from;
     while i < end {

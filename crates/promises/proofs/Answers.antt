@@ -1,23 +1,20 @@
 -- From what is heard of each codeword to what read answers and leaves in the lent buffer.
 -- Assumes nothing.
 use mathlib.Core.Path.{_≡_, refl, sym, ap, _∙_}
-use mathlib.Core.Bool.{Bool, true, false, not}
-use mathlib.Core.List.{List, _++_}
-use mathlib.Core.Logic.{⊎-elim}
-use Prim.Native.Nat.{ℕ, zero, suc, _+_, _-_, _^_, _≤_, _<_}
-use native.Mathlib.Nat.{eq-or-lt-of-le}
-use native.Mathlib.Decide.{ℕ-discrete}
+use mathlib.Core.Bool.{Bool, true, false}
+use mathlib.Core.List.{List}
+use Prim.Native.Nat.{ℕ, _-_, _^_, _≤_, _<_}
 use native.Mathlib.Omega.{arith}
-use lib.Dec.{leb, ltb, eqb}
-use lib.ListN.{length, getD, drop}
+use lib.Dec.{ltb}
+use lib.ListN.{length, getD}
 use borrow.Author.Tests.{ltb-true, ltb-false}
 use Rattle.bits.specs.Search.{first, howMany}
-use Rattle.bits.proofs.Searches.{first-none, first-is, first-range, first-found, first-before, howMany-cong}
+use Rattle.bits.proofs.Searches.{first-none, first-is, first-found, first-before, howMany-cong}
 use Rattle.lora.specs.Count.{symbolsOf}
 use Rattle.lora.specs.Read.{refusalAt, readOf, bytesAfter, Reading}
 use Rattle.lora.specs.declared.Settings.{Settings}
 use Rattle.lora.specs.declared.Received.{Received}
-use Rattle.lora.specs.declared.Received.the-variants.{Payload, Refused}
+use Rattle.lora.specs.declared.Received.the-variants.{Refused}
 use Rattle.reading.specs.Heard.{heardAt, badAt, mendedAt, nibbleAt}
 use Rattle.promises.specs.Damage.{sentNibble, readWords, hurt, Returned, ReturnedUnless}
 use Rattle.promises.proofs.Near.{Sent}

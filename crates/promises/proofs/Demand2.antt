@@ -1,15 +1,13 @@
 -- Demand 2.
 -- Assumes nothing.
 use mathlib.Core.Path.{_≡_, refl, sym, ap, _∙_}
-use mathlib.Core.Bool.{Bool, true, false, not}
+use mathlib.Core.Bool.{false, not}
 use mathlib.Core.List.{List, _++_}
 use Prim.Native.Nat.{ℕ, _+_, _-_, _^_, _≤_, _<_}
 use native.Mathlib.Omega.{arith}
-use lib.Dec.{eqb}
 use lib.ListN.{length, getD, take, drop, length-append, List·getD-append}
 use lib.Seq.{take-at}
 use borrow.Author.Tests.{eq-eqb}
-use Rattle.bits.specs.Search.{howMany}
 use Rattle.bits.specs.Tab.{tab}
 use Rattle.bits.proofs.Searches.{howMany-none}
 use Rattle.bits.proofs.Tabs.{length-tab, getD-tab}
@@ -25,7 +23,6 @@ use Rattle.lora.specs.declared.Received.{Received}
 use Rattle.lora.specs.declared.Received.the-variants.{Payload}
 use Rattle.lora.proofs.CountLaws.{coded}
 use Rattle.promises.specs.Damage.{Bytes, readWords, blockAt, changedBits, changedSymbols, Changed, Passed, hurt}
-use Rattle.promises.proofs.Answers.{HeardAs}
 use Rattle.promises.proofs.Demand3.{frame-cells, bits-le, answered-by, clean, hurt-none}
 
 -- what code writes is below 2^SF

@@ -2,31 +2,26 @@
 -- Assumes nothing.
 use mathlib.Core.Path.{_≡_, refl, sym, ap, _∙_}
 use mathlib.Core.Bool.{Bool, true, false, not}
-use mathlib.Core.List.{List, _++_}
-use mathlib.Core.Logic.{_⊎_, inl, inr, ⊎-elim}
-use Prim.Native.Nat.{ℕ, zero, suc, _+_, _-_, _^_, _≤_, _<_}
+use mathlib.Core.List.{List}
+use Prim.Native.Nat.{ℕ, zero, suc, _-_, _≤_, _<_}
 use native.Mathlib.Omega.{arith}
-use lib.Dec.{leb, ltb, eqb}
-use lib.ListN.{length, getD, drop}
-use borrow.Author.Tests.{leb-true, leb-false, le-leb, lt-leb, eq-eqb, ne-eqb}
-use Rattle.bits.specs.Pick.{both}
-use Rattle.bits.specs.Search.{howMany}
-use Rattle.bits.specs.Tab.{over}
+use lib.Dec.{leb, eqb}
+use lib.ListN.{length, getD}
+use borrow.Author.Tests.{leb-true, leb-false, le-leb, lt-leb, ne-eqb}
 use Rattle.bits.proofs.Tabs.{getD-over}
 use Rattle.codeword.specs.Codeword.{isUnreadable, isRepaired, nibbleOf}
-use Rattle.codeword.specs.declared.Heard.{Heard}
 use Rattle.codeword.specs.declared.Heard.the-variants.{Taken, Repaired, Unreadable}
-use Rattle.layout.specs.Layout.{Valid, blockOfCodeword, laterBlocks}
+use Rattle.layout.specs.Layout.{blockOfCodeword}
 use Rattle.layout.proofs.LayoutLaws.{block-of-read}
-use Rattle.lora.specs.Code.{sentSymbol, symbolsAfter, Coding}
+use Rattle.lora.specs.Code.{sentSymbol, Coding}
 use Rattle.lora.specs.Count.{symbolsOf}
-use Rattle.lora.specs.Read.{refusalAt, Reading}
+use Rattle.lora.specs.Read.{refusalAt}
 use Rattle.lora.specs.declared.Settings.{Settings}
 use Rattle.lora.specs.declared.Counted.the-variants.{Symbols}
 use Rattle.lora.specs.declared.Received.{Received}
-use Rattle.lora.proofs.CountLaws.{Countable, coded}
-use Rattle.reading.specs.Heard.{heardAt, badAt, mendedAt, nibbleAt}
-use Rattle.promises.specs.Damage.{Bytes, sentNibble, readWords, blockFor, blockAt, changedBits, changedSymbols, Passed, hurt, hurtAfterFirst, hurtTwice, Returned, ReturnedUnless}
+use Rattle.lora.proofs.CountLaws.{coded}
+use Rattle.reading.specs.Heard.{heardAt}
+use Rattle.promises.specs.Damage.{sentNibble, readWords, blockFor, blockAt, changedBits, Passed, hurt, hurtAfterFirst, hurtTwice, Returned, ReturnedUnless}
 use Rattle.promises.proofs.Near.{Sent, changed-le, heard-none, heard-repaired, heard-unread, heard-double, rate-in-first, rate-in-later}
 use Rattle.promises.proofs.Answers.{HeardAs, answered}
 

@@ -1,14 +1,13 @@
 -- The examples of document 01 that are marked P: one table, one claim.
 -- Assumes nothing.
 use mathlib.Core.Path.{_≡_, refl}
-use mathlib.Core.Bool.{Bool, true, false, not}
-use mathlib.Core.List.{List, [], _∷_, _++_}
+use mathlib.Core.Bool.{true, false}
+use mathlib.Core.List.{List, [], _∷_}
 use Prim.Native.Nat.{ℕ, _+_}
 use lib.Count.{ones}
 use lib.ListN.{length}
 use Rattle.bits.specs.Bit.{bit, number}
-use Rattle.bits.specs.Search.{first, howMany}
-use Rattle.bits.specs.Tab.{tab, over, blank}
+use Rattle.bits.specs.Tab.{tab, blank}
 use Rattle.block.specs.Block.{wordOfCodewords, symbolOfCodewords}
 use Rattle.block.specs.Gray.{valueOfWord, numberOfValue}
 use Rattle.checksum.specs.Checksum.{divisor, reduced, oneBit, lowBits, oneByte, remainder, checksum}

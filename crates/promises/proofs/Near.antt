@@ -1,30 +1,27 @@
 -- Damage is local: what changed symbols do to a codeword, and what is heard of it then.
 -- Assumes nothing.
-use mathlib.Core.Path.{_≡_, refl, sym, ap, _∙_}
-use mathlib.Core.Bool.{Bool, true, false, not}
+use mathlib.Core.Path.{_≡_, refl, ap, _∙_}
+use mathlib.Core.Bool.{not}
 use mathlib.Core.List.{List}
-use Prim.Native.Nat.{ℕ, zero, suc, _+_, _-_, _^_, _≤_, _<_}
+use Prim.Native.Nat.{ℕ, _+_, _-_, _^_, _≤_, _<_}
 use native.Mathlib.Omega.{arith}
-use lib.Dec.{eqb, leb}
+use lib.Dec.{eqb}
 use lib.ListN.{length, getD}
 use Rattle.bits.specs.Search.{howMany}
-use Rattle.bits.specs.Pick.{pick}
 use Rattle.bits.proofs.Searches.{howMany-cong}
 use Rattle.block.proofs.BlockLaws.{wrong-bits}
 use Rattle.codeword.specs.Codeword.{codeword, apart, readAs, Rate}
 use Rattle.codeword.specs.declared.Heard.{Heard}
 use Rattle.codeword.specs.declared.Heard.the-variants.{Taken, Repaired, Unreadable}
 use Rattle.codeword.proofs.CodeLaws.{heard-same, heard-mended, heard-refused, heard-two}
-use Rattle.coding.specs.Nibbles.{Sendable}
-use Rattle.coding.specs.Symbols.{codewordInBlock, symbolInBlock, symbolAt}
+use Rattle.coding.specs.Symbols.{codewordInBlock, symbolInBlock}
 use Rattle.coding.proofs.CodingLaws.{frame-nibble-lt, symbol-of-block}
-use Rattle.header.specs.Header.{headerNibbles}
 use Rattle.header.proofs.HeaderLaws.{header-nibble-lt}
-use Rattle.layout.specs.Layout.{Valid, blockOf, blockOfCodeword, laterBlocks}
+use Rattle.layout.specs.Layout.{Valid, blockOfCodeword, laterBlocks}
 use Rattle.layout.specs.declared.Block.{Block}
 use Rattle.layout.proofs.LayoutLaws.{codeword-place, block-of-read, rate-first, rate-later, rate-fits, symbols-below}
 use Rattle.lora.specs.Code.{sentSymbol}
-use Rattle.lora.specs.Count.{symbolsOf, nibblesOf}
+use Rattle.lora.specs.Count.{symbolsOf}
 use Rattle.lora.specs.declared.Settings.{Settings}
 use Rattle.reading.specs.Heard.{wordInBlock, heardInBlock, heardAt}
 use Rattle.reading.proofs.ReadingLaws.{word-lt}

@@ -3,7 +3,7 @@
 use mathlib.Core.Path.{_≡_, refl, sym, ap, _∙_}
 use mathlib.Core.Bool.{Bool, true, false}
 use mathlib.Core.List.{List, _++_}
-use Prim.Native.Nat.{ℕ, zero, suc, _+_, _-_, _*_, _^_, _≤_, _<_}
+use Prim.Native.Nat.{ℕ, _+_, _-_, _^_, _≤_, _<_}
 use native.Mathlib.Omega.{arith}
 use lib.Dec.{leb, eqb}
 use lib.ListN.{length, getD, drop}
@@ -12,21 +12,20 @@ use Rattle.bits.specs.Pick.{pick, check}
 use Rattle.bits.specs.Search.{first, howMany}
 use Rattle.bits.specs.Tab.{tab, over}
 use Rattle.bits.proofs.Searches.{first-none, first-cong, first-skip, first-before, first-fewer, first-later}
-use Rattle.bits.proofs.Tabs.{tab-cong}
 use Rattle.checksum.specs.Checksum.{checksum}
 use Rattle.codeword.specs.Codeword.{nibbleOf, isUnreadable}
 use Rattle.coding.specs.Nibbles.{frameNibble}
-use Rattle.header.specs.Header.{headerNibbles, verdictOf}
+use Rattle.header.specs.Header.{headerNibbles}
 use Rattle.header.proofs.HeaderLaws.{length-header}
-use Rattle.layout.specs.Layout.{Valid, validSf, validCr, dataNibbles, symbolCount}
+use Rattle.layout.specs.Layout.{validSf, dataNibbles, symbolCount}
 use Rattle.lora.specs.Count.{nibblesOf, symbolsOf}
-use Rattle.lora.specs.Head.{isOver, firstOver, headerHeard, badInHeader, said, headerOf, headOf}
-use Rattle.lora.specs.Read.{nibbleHeard, byteHeard, sumHolds, badInData, refusalAt, repairsOf, totalOf, dataOf, bodyOf, onward, readOf, bytesAfter}
+use Rattle.lora.specs.Head.{isOver, firstOver, headerHeard, badInHeader, headerOf, headOf}
+use Rattle.lora.specs.Read.{nibbleHeard, byteHeard, sumHolds, badInData, refusalAt, repairsOf, totalOf, dataOf, bodyOf, readOf}
 use Rattle.lora.specs.declared.Settings.{Settings}
 use Rattle.lora.specs.declared.Heading.the-variants.{Says, Refused as HeadRefused}
 use Rattle.lora.specs.declared.Received.the-variants.{Payload, Refused}
 use Rattle.reading.specs.Heard.{heardAt, badAt, mendedAt, nibbleAt}
-use Rattle.reading.specs.Payload.{payloadByte, sentChecksum}
+use Rattle.reading.specs.Payload.{sentChecksum}
 use Rattle.reading.proofs.ReadingLaws.{heard-in-first}
 use Rattle.promises.specs.Damage.{sentNibble, readWords}
 use Rattle.promises.proofs.Near.{Sent}

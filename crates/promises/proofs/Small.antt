@@ -1,14 +1,14 @@
 -- Smaller promises that users rely on.
 -- Assumes nothing.
-use mathlib.Core.Path.{_≡_, refl, sym, ap, _∙_}
+use mathlib.Core.Path.{_≡_, refl, sym}
 use mathlib.Core.Bool.{Bool, true, false}
 use mathlib.Core.List.{List}
-use Prim.Native.Nat.{ℕ, zero, suc, _+_, _-_, _*_, _/_, _%_, _^_, _≤_, _<_}
+use Prim.Native.Nat.{ℕ, _-_, _*_, _/_, _≤_}
 use native.Mathlib.Nat.{div-add-mod'}
 use native.Mathlib.Omega.{arith}
 use lib.Dec.{leb}
-use lib.ListN.{length, getD}
-use Rattle.bits.specs.Pick.{pick, check}
+use lib.ListN.{length}
+use Rattle.bits.specs.Pick.{check}
 use Rattle.layout.specs.Layout.{validSf, validCr, rowsOfFirst, rowsOfLater, dataNibbles, remaining, laterBlocks, symbolCount}
 use Rattle.lora.specs.Airtime.{validBandwidth, dividend, microseconds, lasting, airtimeOf}
 use Rattle.lora.specs.Code.{fitting, codeOf, Coding}
@@ -22,7 +22,7 @@ use Rattle.lora.specs.declared.Lasting.the-variants.{Microseconds, Refused as T
 use Rattle.lora.specs.declared.Heading.the-variants.{Says, Refused as HeadRefused}
 use Rattle.lora.specs.declared.Received.the-variants.{Payload, Refused}
 use Rattle.lora.proofs.AnswerLaws.{accepted}
-use Rattle.lora.proofs.CountLaws.{counted, coded, symbols-le}
+use Rattle.lora.proofs.CountLaws.{counted, symbols-le}
 use Rattle.lora.proofs.TimeLaws.{whole}
 
 -- the count that code answers is what count answers

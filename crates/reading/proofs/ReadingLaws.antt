@@ -6,13 +6,12 @@ use mathlib.Core.List.{List}
 use Prim.Native.Nat.{ℕ, _+_, _-_, _*_, _^_, _≤_, _<_}
 use native.Mathlib.Nat.{zero-add}
 use native.Mathlib.Omega.{arith}
-use lib.Bits.{bitXor, xor-lt}
+use lib.Bits.{bitXor}
 use lib.Dec.{ltb}
-use lib.ListN.{length, getD, List·getD-eq-default}
+use lib.ListN.{getD, List·getD-eq-default}
 use borrow.Author.Tests.{ltb-true, ltb-false}
 use Rattle.bits.specs.Tab.{over, blank}
-use Rattle.bits.proofs.Searches.{first-range}
-use Rattle.bits.proofs.Tabs.{length-blank, getD-blank, length-over, getD-over, getD-over-rest}
+use Rattle.bits.proofs.Tabs.{length-blank, getD-blank, getD-over, getD-over-rest}
 use Rattle.block.proofs.BlockLaws.{received-lt}
 use Rattle.codeword.specs.declared.Heard.{Heard}
 use Rattle.codeword.proofs.CodeLaws.{nibble-lt}
@@ -20,8 +19,7 @@ use Rattle.layout.specs.declared.Block.{Block}
 use Rattle.layout.specs.Layout.{Valid, blockOf, firstBlock}
 use Rattle.layout.proofs.LayoutLaws.{codeword-in, in-first}
 use Rattle.whitening.specs.Whitening.{whitening}
-use Rattle.whitening.proofs.WhiteningLaws.{whitening-lt}
-use Rattle.reading.specs.Heard.{wordInBlock, heardInBlock, heardAt, badAt, nibbleAt, Walk}
+use Rattle.reading.specs.Heard.{wordInBlock, heardInBlock, heardAt, nibbleAt, Walk}
 use Rattle.reading.specs.Payload.{byteOfNibbles, payloadByte, sentChecksum}
 
 -- a received word has as many bits as its block has columns
@@ -52,10 +50,6 @@ nibble-heard-lt sf low cr symbols i = nibble-lt _ _
 module _ {h : ℕ → Heard} {n end repairs : ℕ} {old new : List ℕ} (w : Walk h n 0 old new end repairs) where
   walk-over : new ≡ over end (nibbleAt h) old
   walk-over = rw zero-add at (w .cells)
-
-  -- the run keeps the list's length
-  pub walk-length : n ≤ length old → length new ≡ length old
-  walk-length l = ap length walk-over ∙ length-over end (nibbleAt h) old (omega (arith, w .ends, first-range (badAt h) n 0))
 
   -- below its end stand the nibbles read, and from there on what was there
   pub walk-nibbles : (i : ℕ) → i < end → getD new i 0 ≡ nibbleAt h i
@@ -102,7 +96,3 @@ checksum-cong h f g len e =
 pub byte-lt : (h : ℕ) (nibble : ℕ → ℕ) (p : ℕ) → ((i : ℕ) → nibble i < 16) → byteOfNibbles h nibble p < 256
 unfolding byteOfNibbles
 byte-lt h nibble p small = omega (arith, small (h + 2 * p), small (h + 2 * p + 1))
-
-pub payload-byte-lt : (h : ℕ) (nibble : ℕ → ℕ) (p : ℕ) → ((i : ℕ) → nibble i < 16) → payloadByte h nibble p < 256
-unfolding payloadByte
-payload-byte-lt h nibble p small = xor-lt 8 (byteOfNibbles h nibble p) (whitening p) (byte-lt h nibble p small) (whitening-lt p)

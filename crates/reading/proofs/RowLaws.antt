@@ -1,4 +1,4 @@
--- A block's words, listed, and the block's place in a frame.
+-- The rows of a block's grid, and the block's place in a frame.
 -- Assumes nothing.
 use mathlib.Core.Path.{_≡_, sym, ap, _∙_}
 use mathlib.Core.Bool.{Bool}
@@ -6,46 +6,38 @@ use mathlib.Core.List.{List}
 use Prim.Native.Nat.{ℕ, _+_, _^_, _≤_, _<_}
 use native.Mathlib.Omega.{arith}
 use lib.ListN.{getD}
-use Rattle.bits.specs.Tab.{over, blank}
-use Rattle.bits.proofs.Tabs.{getD-over, over-cong}
-use Rattle.block.specs.Grid.{gridOfWords, codewordOfGrid, codewordsOfGrid}
-use Rattle.block.proofs.BlockLaws.{codewords-received}
+use Rattle.bits.specs.Tab.{blank}
+use Rattle.bits.proofs.Bits.{number-lt}
+use Rattle.bits.proofs.Searches.{asBit-le}
+use Rattle.bits.proofs.Tabs.{getD-over}
+use Rattle.block.specs.Grid.{cell, codewordOfGrid}
+use Rattle.block.proofs.BlockLaws.{codeword-through-grid}
 use Rattle.codeword.specs.Codeword.{readAs}
 use Rattle.layout.specs.declared.Block.{Block}
 use Rattle.layout.specs.Layout.{Valid, Fits, blockOf, laterBlocks, symbolCount}
 use Rattle.layout.proofs.LayoutLaws.{block-fits, later-le, base-below, symbols-below}
-use Rattle.reading.specs.Heard.{symbolWord, wordInBlock, heardInBlock, heardAt, readRow}
-use Rattle.reading.proofs.ReadingLaws.{word-lt, heard-of-block}
+use Rattle.reading.specs.Heard.{symbolWord, wordInBlock, heardInBlock, heardAt, gridInBlock, readRow}
+use Rattle.reading.proofs.ReadingLaws.{heard-of-block}
 
--- the words of a block, listed, are read as the block's
-pub read-row : (B : Block) (symbols words : List ℕ) (i : ℕ) → words ≡ over (B .rows) (wordInBlock B symbols) (blank 12 0) → i < B .rows
-    → readRow (B .rate) words i ≡ heardInBlock B symbols i
-unfolding readRow heardInBlock
-read-row B symbols words i e h = rw e (ap (readAs (B .rate)) (getD-over (B .rows) (wordInBlock B symbols) (blank 12 0) i 0 h))
-
--- the words received in a block's columns give the words of its rows, through the grid
-pub words-through-grid : (B : Block) (symbols words : List ℕ) → words ≡ over (4 + B .rate) (symbolWord B symbols) (blank 8 0)
-    → codewordsOfGrid (B .rows) (4 + B .rate) (gridOfWords (B .rows) (4 + B .rate) words) ≡ over (B .rows) (wordInBlock B symbols) (blank 12 0)
-unfolding codewordsOfGrid wordInBlock symbolWord
-words-through-grid B symbols words e =
-    let n : ℕ = B .rows in
+-- a row of a block's grid is the word received for it
+grid-row : (B : Block) (symbols : List ℕ) (i : ℕ) → i < B .rows → codewordOfGrid (4 + B .rate) (gridInBlock B symbols) i ≡ wordInBlock B symbols i
+unfolding gridInBlock wordInBlock symbolWord
+grid-row B symbols i h =
     let columns : ℕ = 4 + B .rate in
-    over-cong n _ _ (blank 12 0)
-    (λ i h.
-    sym (getD-over n (codewordOfGrid columns (gridOfWords n columns words)) (blank 12 0) i 0 h)
-    ∙ codewords-received n columns (B .wide) (λ j. getD symbols (B .first + j) 0) words i h
-    (λ j l. ap (λ (x : List ℕ). getD x j 0) e ∙ getD-over columns (symbolWord B symbols) (blank 8 0) j 0 l))
+    codeword-through-grid (B .rows) columns (B .wide) (λ j. getD symbols (B .first + j) 0) _ i h (λ j l. getD-over columns (symbolWord B symbols) (blank 8 0) j 0 l)
 
--- row i of a block, listed, is read as the frame's codeword
-pub row-heard : (sf : ℕ) (low : Bool) (cr b : ℕ) (B : Block) (symbols words : List ℕ) (i : ℕ) → Valid sf cr → B ≡ blockOf sf low cr b
-    → words ≡ over (B .rows) (wordInBlock B symbols) (blank 12 0) → i < B .rows → readRow (B .rate) words i ≡ heardAt sf low cr symbols (B .base + i)
-row-heard sf low cr b B symbols words i v e w h =
-    read-row B symbols words i w h ∙ rw e (sym (heard-of-block sf low cr b symbols i v (rw e at h)))
+-- it is read as the frame's codeword
+pub row-heard : (sf : ℕ) (low : Bool) (cr b : ℕ) (B : Block) (symbols : List ℕ) (g : List (List Bool)) (i : ℕ) → Valid sf cr → B ≡ blockOf sf low cr b
+    → g ≡ gridInBlock B symbols → i < B .rows → readRow (B .rate) g i ≡ heardAt sf low cr symbols (B .base + i)
+unfolding readRow heardInBlock
+row-heard sf low cr b B symbols g i v e w h =
+    let row : readAs (B .rate) (codewordOfGrid (4 + B .rate) g i) ≡ heardInBlock B symbols i = rw w (ap (readAs (B .rate)) (grid-row B symbols i h)) in
+    row ∙ rw e (sym (heard-of-block sf low cr b symbols i v (rw e at h)))
 
--- a listed word of a block has as many bits as the block has columns
-pub listed-lt : (B : Block) (symbols words : List ℕ) (i : ℕ) → words ≡ over (B .rows) (wordInBlock B symbols) (blank 12 0) → i < B .rows
-    → getD words i 0 < 2 ^ (4 + B .rate)
-listed-lt B symbols words i e h = rw (e, getD-over (B .rows) (wordInBlock B symbols) (blank 12 0) i 0 h) (word-lt B symbols i)
+-- a row has as many bits as the block has columns
+pub row-lt : (columns : ℕ) (g : List (List Bool)) (i : ℕ) → codewordOfGrid columns g i < 2 ^ columns
+unfolding codewordOfGrid
+row-lt columns g i = number-lt columns _ (λ j. omega (arith, asBit-le (cell g i j)))
 
 -- a block of a frame of n codewords: it is as blocks are, it begins below n, and its symbols are among the frame's
 pub record Placed (sf : ℕ) (low : Bool) (cr n b : ℕ) (B : Block) : Type 0 where

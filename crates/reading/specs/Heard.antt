@@ -7,8 +7,9 @@ use mathlib.Core.Path.{_≡_}
 use Prim.Native.Nat.{ℕ, _+_, _-_}
 use lib.ListN.{getD}
 use Rattle.bits.specs.Search.{first, howMany}
-use Rattle.bits.specs.Tab.{overAt}
+use Rattle.bits.specs.Tab.{over, overAt, blank}
 use Rattle.block.specs.Block.{received, wordOfNumber}
+use Rattle.block.specs.Grid.{gridOfWords, codewordOfGrid}
 use Rattle.codeword.specs.Codeword.{readAs, nibbleOf, isRepaired, isUnreadable}
 use Rattle.codeword.specs.declared.Heard.{Heard}
 use Rattle.layout.specs.Layout.{blockOf, blockOfCodeword}
@@ -41,9 +42,12 @@ mendedAt h i = isRepaired (h i)
 abbrev pub nibbleAt : (ℕ → Heard) → ℕ → ℕ
 nibbleAt h i = nibbleOf (h i)
 
--- what row i of a block is read as whose words are listed
-unfoldable pub readRow : ℕ → List ℕ → ℕ → Heard
-readRow rate codewords i = readAs rate (getD codewords i 0)
+-- the grid of a block's symbol words, and what row i of a grid is read as
+unfoldable pub gridInBlock : Block → List ℕ → List (List Bool)
+gridInBlock B symbols = gridOfWords (B .rows) (4 + B .rate) (over (4 + B .rate) (symbolWord B symbols) (blank 8 0))
+
+unfoldable pub readRow : ℕ → List (List Bool) → ℕ → Heard
+readRow rate g i = readAs rate (codewordOfGrid (4 + rate) g i)
 
 -- n codewords read in order: the first that can't be read (or n), the repairs before it, and the nibbles before it,
 -- which stand from the place at on

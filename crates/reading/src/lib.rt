@@ -7,7 +7,7 @@ ghost use Rattle.bits.specs.Pick.{pick};
 ghost use Rattle.bits.specs.Tab.{over, blank};
 ghost use Rattle.codeword.specs.Codeword.{Rate};
 ghost use Rattle.layout.specs.Layout.{Valid, Fits, symbolCount};
-ghost use Rattle.reading.specs.Heard.{symbolWord, wordInBlock, readRow, heardAt, Walk};
+ghost use Rattle.reading.specs.Heard.{symbolWord, gridInBlock, readRow, heardAt, Walk};
 ghost use Rattle.reading.specs.Payload.{listed, payloadByte, byteOfNibbles, sentChecksum};
 use layout::Block;
 
@@ -39,34 +39,24 @@ fn words_of_block(b: Block, symbols: &[u16]) -> [u16; 8]
     words
 }
 
-// The words received for a block's codewords, through the grid.
-fn codewords_of_block(b: Block, symbols: &[u16]) -> [u8; 12]
+// The grid of a block.
+fn grid_of_block(b: Block, symbols: &[u16]) -> [[bool; 8]; 12]
     requires { ⌜ Fits b × (b .first + (4 + b .rate) ≤ length (now symbols)) ⌝ }
-    ensures { λ r. ⌜ r ≡ over (b .rows) (wordInBlock b (now (symbols .entry))) (blank 12 0) ⌝ }
+    ensures { λ r. ⌜ r ≡ gridInBlock b (now (symbols .entry)) ⌝ }
 {
-    let rows = b.rows;
     let columns = 4 + bits::wide(b.rate);
-    block::codewords_of_grid(
-        rows,
-        columns,
-        block::grid_of_words(rows, columns, words_of_block(b, symbols)),
-    )
+    block::grid_of_words(b.rows, columns, words_of_block(b, symbols))
 }
 
-// Reads n codewords of a block into the nibbles from the place at on, up to the first that can't be read.
-fn read_rows(
-    rate: u8,
-    codewords: [u8; 12],
-    n: usize,
-    at: usize,
-    nibbles: &mut [u8; 519],
-) -> Progress
-    requires { ⌜ Rate rate × (n ≤ 12) × (at + n ≤ 519) × (length (now nibbles) ≡ 519) × ((i : ℕ) → i < n → getD codewords i 0 < 2 ^ (4 + rate)) ⌝ }
-    ensures { λ r. ⌜ Walk (readRow rate codewords) n at (now (nibbles .entry)) (now (nibbles .exit)) (r .end) (r .repairs) ⌝ }
+// Reads n codewords of a grid into the nibbles from the place at on, up to the first that can't be read.
+fn read_rows(rate: u8, g: [[bool; 8]; 12], n: usize, at: usize, nibbles: &mut [u8; 519]) -> Progress
+    requires { ⌜ Rate rate × (n ≤ 12) × (at + n ≤ 519) × (length (now nibbles) ≡ 519) ⌝ }
+    ensures { λ r. ⌜ Walk (readRow rate g) n at (now (nibbles .entry)) (now (nibbles .exit)) (r .end) (r .repairs) ⌝ }
 {
+    let columns = 4 + bits::wide(rate);
     let mut repairs = 0;
     for i in 0..n {
-        let h = codeword::read_word(rate, codewords[i]);
+        let h = codeword::read_word(rate, block::codeword_of_grid(columns, &g, i));
         if codeword::unreadable(h) {
             return Progress { end: i, repairs };
         }
@@ -94,7 +84,7 @@ pub fn read_frame(
         let b = layout::block_at(sf, low, cr, k);
         let base = b.base;
         let rows = least(b.rows, n - base);
-        let p = read_rows(b.rate, codewords_of_block(b, symbols), rows, base, nibbles);
+        let p = read_rows(b.rate, grid_of_block(b, symbols), rows, base, nibbles);
         repairs += p.repairs;
         if p.end < rows {
             return Progress {
@@ -120,9 +110,10 @@ pub fn payload_of_nibbles(nibbles: &[u8; 519], len: usize) -> [u8; 255]
     requires { ⌜ (len ≤ 255) × ((i : ℕ) → getD (now nibbles) i 0 < 16) ⌝ }
     ensures { λ r. ⌜ r ≡ over len (payloadByte 5 (listed (now (nibbles .entry)))) (blank 255 0) ⌝ }
 {
+    let table = whitening::table();
     let mut payload = [0u8; 255];
     for p in 0..len {
-        payload[p] = byte_of_nibbles(nibbles, p) ^ whitening::whitening(p);
+        payload[p] = byte_of_nibbles(nibbles, p) ^ table[p];
     }
     payload
 }

@@ -1,6 +1,7 @@
 // The whitening bytes.
 ghost use mathlib.Core.Path.{_≡_};
 ghost use Prim.Native.Nat.{_<_};
+ghost use Rattle.bits.specs.Tab.{tab};
 ghost use Rattle.whitening.specs.Whitening.{whitening};
 
 const TABLE: [u8; 255] = [
@@ -267,4 +268,11 @@ pub fn whitening(i: usize) -> u8
     ensures { λ r. ⌜ r ≡ whitening i ⌝ }
 {
     TABLE[i]
+}
+
+// All of them, for a caller that takes many and lends them: a constant array is copied at each use.
+pub fn table() -> [u8; 255]
+    ensures { λ r. ⌜ r ≡ tab 255 whitening ⌝ }
+{
+    TABLE
 }

@@ -1,66 +1,63 @@
-use mathlib.Core.Path.{refl}
-use Prim.Native.Nat.{_<_, _-_, _^_}
 use native.Mathlib.Omega.{arith}
-use lib.ListN.{getD}
-use mathlib.Core.Bool.{false}
-use Rattle.bits.proofs.Searches.{asBit-le}
-use Rattle.block.proofs.GridLoop.{Built, built-start, built-back, built-end, built-small, bitOfRow, bitOfRow-lt}
+use Rattle.bits.specs.Bit.{number}
 use borrow.Author.Needs.{needs}
 use Rattle.block.proofs.codeword_of_row.Statement.{statement}
 use Rattle.block.proofs.codeword_of_row.Tie as tie
 
-abbrev Inv-loop : tie.InvT-loop
-Inv-loop row codeword₀ j₀ codeword j = Built (bitOfRow row) 8 j codeword
+element-copy-out-four : tie.Need-element-copy-out-four
+element-copy-out-four c = search needs
 
-abbrev μ-loop : tie.MeasureT-loop
-μ-loop row codeword₀ j₀ codeword j = j
+element-copy-out-four-2 : tie.Need-element-copy-out-four-2
+element-copy-out-four-2 c = search needs
 
-loop-holds : tie.Need-loop-holds Inv-loop μ-loop
-loop-holds c = built-start _ _
+element-copy-out-four-3 : tie.Need-element-copy-out-four-3
+element-copy-out-four-3 c = search needs
 
-sub-j : tie.Need-sub-j Inv-loop μ-loop
-sub-j c = search needs
+element-copy-out-four-4 : tie.Need-element-copy-out-four-4
+element-copy-out-four-4 c = search needs
 
-mul-codeword : tie.Need-mul-codeword Inv-loop μ-loop
-mul-codeword c =
-    let small : c .before .loop .codeword < 2 ^ 7 = built-small (c .before .loop .inv) (bitOfRow-lt _) 7 (omega arith) in
-    omega arith
+four-requires : tie.Need-four-requires
+four-requires c κs = search needs
 
-element-copy-out-codeword : tie.Need-element-copy-out-codeword Inv-loop μ-loop
-element-copy-out-codeword c = search needs
+element-copy-out-four-5 : tie.Need-element-copy-out-four-5
+element-copy-out-four-5 c = search needs
 
-cast-codeword : tie.Need-cast-codeword Inv-loop μ-loop
-cast-codeword c = search needs
+element-copy-out-four-6 : tie.Need-element-copy-out-four-6
+element-copy-out-four-6 c = search needs
 
-add-codeword : tie.Need-add-codeword Inv-loop μ-loop
-add-codeword c =
-    let l = c .before .before .loop in
-    let small : l .codeword < 2 ^ 7 = built-small (l .inv) (bitOfRow-lt _) 7 (omega arith) in
-    omega (arith, asBit-le (getD (c .before .before .before .args .row .now) (l .j - 1) false))
+element-copy-out-four-7 : tie.Need-element-copy-out-four-7
+element-copy-out-four-7 c = search needs
 
-loop-less : tie.Need-loop-less Inv-loop μ-loop
-loop-less c = search needs
+element-copy-out-four-8 : tie.Need-element-copy-out-four-8
+element-copy-out-four-8 c = search needs
 
-loop-again : tie.Need-loop-again Inv-loop μ-loop
-unfolding bitOfRow
-loop-again c = built-back (c .before .before .loop .inv) (omega arith) refl
+four-requires-2 : tie.Need-four-requires-2
+four-requires-2 c κs = search needs
 
-returns : tie.Need-returns Inv-loop μ-loop
-unfolding bitOfRow
-returns c = built-end (c .before .loop .inv) (omega arith)
+mul-result : tie.Need-mul-result
+mul-result c = search needs
+
+add-result : tie.Need-add-result
+add-result c = search needs
+
+returns : tie.Need-returns
+unfolding number
+returns c = omega (arith, c .before .before .before .before .before .four .ensures, c .four2 .ensures)
 
 pub codeword-of-row-spec : {M : Type 1} → statement M
 codeword-of-row-spec =
     tie.close
     (tie.spec
-    Inv-loop
-    μ-loop
-    loop-holds
-    sub-j
-    mul-codeword
-    element-copy-out-codeword
-    cast-codeword
-    add-codeword
-    loop-less
-    loop-again
+    element-copy-out-four
+    element-copy-out-four-2
+    element-copy-out-four-3
+    element-copy-out-four-4
+    four-requires
+    element-copy-out-four-5
+    element-copy-out-four-6
+    element-copy-out-four-7
+    element-copy-out-four-8
+    four-requires-2
+    mul-result
+    add-result
     returns)

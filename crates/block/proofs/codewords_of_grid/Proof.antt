@@ -4,7 +4,6 @@ use Rattle.bits.specs.Tab.{blank}
 use Rattle.bits.proofs.Tabs.{length-blank}
 use Rattle.bits.proofs.Fill.{Filled, filled-none, filled-more, filled-end}
 use Rattle.block.specs.Grid.{codewordOfGrid, codewordsOfGrid}
-use Rattle.block.proofs.GridLoop.{codeword-cut}
 use borrow.Author.Needs.{needs}
 use Rattle.block.proofs.codewords_of_grid.Statement.{statement}
 use Rattle.block.proofs.codewords_of_grid.Tie as tie
@@ -19,17 +18,8 @@ loop-holds : tie.Need-loop-holds Inv-loop μ-loop
 unfolding blank
 loop-holds c = (search needs, filled-none _ _)
 
-mul-codeword-of-row : tie.Need-mul-codeword-of-row Inv-loop μ-loop
-mul-codeword-of-row c = search needs
-
-index-1-codeword-of-row : tie.Need-index-1-codeword-of-row Inv-loop μ-loop
-index-1-codeword-of-row c = search needs
-
-codeword-of-row-requires : tie.Need-codeword-of-row-requires Inv-loop μ-loop
-codeword-of-row-requires c κs = search needs
-
-low-bits-requires : tie.Need-low-bits-requires Inv-loop μ-loop
-low-bits-requires c κs = search needs
+codeword-of-grid-requires : tie.Need-codeword-of-grid-requires Inv-loop μ-loop
+codeword-of-grid-requires c κs = search needs
 
 array-write-codewords : tie.Need-array-write-codewords Inv-loop μ-loop
 array-write-codewords c = search needs
@@ -41,10 +31,7 @@ loop-less : tie.Need-loop-less Inv-loop μ-loop
 loop-less c = search needs
 
 loop-again : tie.Need-loop-again Inv-loop μ-loop
-loop-again c =
-    let a = c .before .before .before .before .before .args in
-    let l = c .before .before .before .before .loop in
-    (search needs, filled-more (l .inv .1) (omega (arith, length-blank {A = ℕ} 12 0)) (codeword-cut (a .columns) (a .t3) (l .i) (omega arith) (c .before .codeword-of-row .ensures) (c .low-bits .ensures)))
+loop-again c = (search needs, filled-more (c .before .before .before .loop .inv .1) (omega (arith, length-blank {A = ℕ} 12 0)) (c .codeword-of-grid .ensures))
 
 returns : tie.Need-returns Inv-loop μ-loop
 unfolding codewordsOfGrid
@@ -57,10 +44,7 @@ codewords-of-grid-spec =
     Inv-loop
     μ-loop
     loop-holds
-    mul-codeword-of-row
-    index-1-codeword-of-row
-    codeword-of-row-requires
-    low-bits-requires
+    codeword-of-grid-requires
     array-write-codewords
     add-i
     loop-less

@@ -13,10 +13,10 @@ use Rattle.block.proofs.grid_of_words.Statement.{statement}
 use Rattle.block.proofs.grid_of_words.Tie as tie
 
 abbrev Inv-loop : tie.InvT-loop
-Inv-loop n columns plain g₀ i₀ g i = (i ≤ n) × Filled (rowOfColumns plain) (blank 12 (blank 8 false)) i g
+Inv-loop n columns plain g₀ i₀ g i = (i ≤ 12) × Filled (rowOfColumns plain) (blank 12 (blank 8 false)) i g
 
 abbrev μ-loop : tie.MeasureT-loop
-μ-loop n columns plain g₀ i₀ g i = n - i
+μ-loop n columns plain g₀ i₀ g i = 12 - i
 
 columns-of-words-requires : tie.Need-columns-of-words-requires Inv-loop μ-loop
 columns-of-words-requires c κs = search needs
@@ -33,7 +33,7 @@ index-1-set-row c = search needs
 
 set-row-requires : tie.Need-set-row-requires Inv-loop μ-loop
 set-row-requires c κs =
-    let l = c .before .before .loop in
+    let l = c .before .before .before .loop in
     (search needs, ap length (filled-rest [] (l .inv .1) ∙ getD-blank 12 (l .i) (blank 8 false) [] (omega arith)) ∙ length-blank 8 false)
 
 add-i : tie.Need-add-i Inv-loop μ-loop
@@ -44,11 +44,11 @@ loop-less c = search needs
 
 loop-again : tie.Need-loop-again Inv-loop μ-loop
 unfolding rowOfColumns
-loop-again c = (search needs, filled-more (c .before .before .before .loop .inv .1) (omega (arith, length-blank 12 (blank 8 false))) (c .set-row .ensures))
+loop-again c = (search needs, filled-more (c .before .before .before .before .loop .inv .1) (omega (arith, length-blank 12 (blank 8 false))) (c .set-row .ensures))
 
 returns : tie.Need-returns Inv-loop μ-loop
 returns c =
-    filled-end (c .before .loop .inv .1) (omega arith) ∙ rows-of-columns _ _ _ (omega arith) (c .before .before .columns-of-words .ensures)
+    filled-end (c .before .loop .inv .1) (omega arith) ∙ rows-of-columns _ _ _ (omega arith) (omega arith) (c .before .before .columns-of-words .ensures)
 
 pub grid-of-words-spec : {M : Type 1} → statement M
 grid-of-words-spec =

@@ -13,10 +13,10 @@ use Rattle.block.proofs.set_row.Statement.{statement}
 use Rattle.block.proofs.set_row.Tie as tie
 
 abbrev Inv-loop : tie.InvT-loop
-Inv-loop i cells₀ plain j₀ cells j = (j ≤ 8) × Filled (cellOfColumns plain i) cells₀ j cells
+Inv-loop plain i cells₀ j₀ cells j = (j ≤ 8) × Filled (cellOfColumns plain i) cells₀ j cells
 
 abbrev μ-loop : tie.MeasureT-loop
-μ-loop i cells₀ plain j₀ cells j = 8 - j
+μ-loop plain i cells₀ j₀ cells j = 8 - j
 
 loop-holds : tie.Need-loop-holds Inv-loop μ-loop
 loop-holds c = (search needs, filled-none _ _)
@@ -24,8 +24,8 @@ loop-holds c = (search needs, filled-none _ _)
 mul-cells : tie.Need-mul-cells Inv-loop μ-loop
 mul-cells c = search needs
 
-array-read-cells : tie.Need-array-read-cells Inv-loop μ-loop
-array-read-cells c = search needs
+element-copy-out-cells : tie.Need-element-copy-out-cells Inv-loop μ-loop
+element-copy-out-cells c = search needs
 
 cast-cells : tie.Need-cast-cells Inv-loop μ-loop
 cast-cells c = search needs
@@ -44,7 +44,7 @@ loop-less c = search needs
 
 loop-again : tie.Need-loop-again Inv-loop μ-loop
 unfolding cellOfColumns bit
-loop-again c = (search needs, filled-more (c .before .loop .inv .1) (omega arith) refl)
+loop-again c = (search needs, filled-more (c .before .before .loop .inv .1) (omega arith) refl)
 
 returns : tie.Need-returns Inv-loop μ-loop
 unfolding row cellOfColumns
@@ -60,7 +60,7 @@ set-row-spec =
     μ-loop
     loop-holds
     mul-cells
-    array-read-cells
+    element-copy-out-cells
     cast-cells
     shr-cells
     element-write-cells

@@ -8,9 +8,6 @@ use Rattle.checksum.proofs.ChecksumLaws.{remainder-more, remainder-end}
 use borrow.Author.Needs.{needs}
 use Rattle.checksum.proofs.checksum.Statement.{statement}
 use Rattle.checksum.proofs.checksum.Tie as tie
-use Rattle.checksum.proofs.checksum.Reads as reads
-use Rattle.checksum.proofs.checksum.Lts as lts
-use Rattle.checksum.proofs.one_byte.Reads as one-byte-reads
 
 abbrev Inv-loop : tie.InvT-loop
 Inv-loop payload table r₀ i₀ i-end r i = (table ≡ tab 256 entry) × (i-end ≡ length payload) × (i ≤ i-end) × (checksum payload ≡ remainder r (drop i payload))

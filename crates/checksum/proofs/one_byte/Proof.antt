@@ -1,15 +1,12 @@
 use Prim.Native.Nat.{ℕ, _+_, _*_, _/_, _%_}
-use mathlib.Core.Path.{_≡_, sym, ap, _∙_}
+use mathlib.Core.Path.{sym, ap, _∙_}
 use lib.Bits.{bitXor}
-use lib.ListN.{getD}
 use Rattle.bits.proofs.Tabs.{getD-tab}
 use Rattle.checksum.specs.Checksum.{entry}
 use Rattle.checksum.proofs.ChecksumLaws.{oneByte-table}
 use borrow.Author.Needs.{needs}
 use Rattle.checksum.proofs.one_byte.Statement.{statement}
 use Rattle.checksum.proofs.one_byte.Tie as tie
-use Rattle.checksum.proofs.one_byte.Reads as reads
-use Rattle.checksum.proofs.one_byte.Lts as lts
 
 cast-result : tie.Need-cast-result
 cast-result c = search needs

@@ -18,9 +18,6 @@ wide-requires c κs = search needs
 add-columns : tie.Need-add-columns Inv-loop μ-loop
 add-columns c = search needs
 
-grid-of-codewords-requires : tie.Need-grid-of-codewords-requires Inv-loop μ-loop
-grid-of-codewords-requires c κs = search needs
-
 words-of-grid-requires : tie.Need-words-of-grid-requires Inv-loop μ-loop
 words-of-grid-requires c κs = search needs
 
@@ -34,7 +31,7 @@ array-read-value-of-word : tie.Need-array-read-value-of-word Inv-loop μ-loop
 array-read-value-of-word c = search needs
 
 value-of-word-requires : tie.Need-value-of-word-requires Inv-loop μ-loop
-value-of-word-requires c κs = (search needs, word-small _ _ _ (c .before .loop .j) (c .before .before .before .grid-of-codewords .ensures) (c .before .before .words-of-grid .ensures) (omega arith))
+value-of-word-requires c κs = (search needs, word-small _ _ _ (c .before .loop .j) (c .before .before .words-of-grid .ensures) (omega arith))
 
 number-of-value-requires : tie.Need-number-of-value-requires Inv-loop μ-loop
 number-of-value-requires c κs = value-small _ _ (search needs) (c .value-of-word .ensures)
@@ -62,8 +59,7 @@ same-length c = search needs
 
 returns : tie.Need-returns Inv-loop μ-loop
 returns c = filledAt-as (c .before .loop .inv .1) (omega arith)
-    (λ i h. symbol-of-words (c .before .before .before .before .before .before .args .b) _ _ i (c .before .before .before .grid-of-codewords .ensures)
-    (c .before .before .words-of-grid .ensures) (omega arith))
+    (λ i h. symbol-of-words (c .before .before .before .before .before .args .b) _ _ i (c .before .before .words-of-grid .ensures) (omega arith))
 
 pub write-block-spec : {M : Type 1} → statement M
 write-block-spec =
@@ -73,7 +69,6 @@ write-block-spec =
     μ-loop
     wide-requires
     add-columns
-    grid-of-codewords-requires
     words-of-grid-requires
     loop-holds
     mul-value-of-word

@@ -1,23 +1,30 @@
-use mathlib.Core.Path.{_≡_, ap, _∙_}
-use Prim.Native.Nat.{ℕ, _≤_, _-_, _+_}
+use mathlib.Core.Path.{_≡_, refl, ap, _∙_}
+use Prim.Native.Nat.{ℕ, _≤_, _<_, _-_, _+_}
 use native.Mathlib.Omega.{arith}
-use lib.ListN.{length}
+use lib.ListN.{length, getD}
+use Rattle.bits.specs.Bit.{bit, number}
+use Rattle.bits.specs.Tab.{tab, blank}
 use Rattle.bits.proofs.Fill.{Filled}
+use Rattle.block.specs.Grid.{row}
+use Rattle.codeword.specs.Codeword.{parity, parityOfAll, parityBit, codewordBit, codeword}
 use Rattle.layout.specs.Layout.{Fits, blockOf, laterBlocks, dataNibbles}
 use Rattle.layout.proofs.LayoutLaws.{later-le, data-le, block-fits}
 use Rattle.coding.specs.Nibbles.{nibbleWith}
+use Rattle.coding.specs.Stages.{rowOfCode}
 use Rattle.coding.specs.Symbols.{symbolAt}
-use Rattle.coding.proofs.CodingLoop.{frame-start, block-room, frame-more, frame-end}
+use Rattle.coding.proofs.CodingLaws.{nibble-lt, Bytes}
+use Rattle.coding.proofs.CodingLoop.{frame-start, block-low, block-room, frame-more, frame-end}
+use Rattle.coding.proofs.NibbleLaws.{laid-nibbles}
 use borrow.Author.Needs.{needs}
 use Rattle.coding.proofs.write_frame.Statement.{statement}
 use Rattle.coding.proofs.write_frame.Tie as tie
 
 abbrev Inv-loop : tie.InvT-loop
-Inv-loop sf low cr header payload sum checksum out₀ nibbles blocks k₀ out k =
-    (k ≤ blocks) × Filled (symbolAt sf low cr (nibbleWith header payload sum checksum)) out₀ (blockOf sf low cr k .first) out
+Inv-loop sf low cr payload sum checksum out₀ count blocks nibbles rows k₀ out k =
+    (rows ≡ tab 64 rowOfCode) × (k ≤ blocks) × Filled (symbolAt sf low cr (λ i. getD nibbles i 0)) out₀ (blockOf sf low cr k .first) out
 
 abbrev μ-loop : tie.MeasureT-loop
-μ-loop sf low cr header payload sum checksum out₀ nibbles blocks k₀ out k = blocks - k
+μ-loop sf low cr payload sum checksum out₀ count blocks nibbles rows k₀ out k = blocks - k
 
 -- a frame has at most 519 nibbles
 few : (c : tie.After-data-nibbles Inv-loop μ-loop) → 5 + c .data-nibbles .result ≤ 519
@@ -40,16 +47,30 @@ later-few c =
     let v = c .before .before .before .before .pre .0 in
     rw (c .later-blocks .ensures) (later-le _ _ _ (v .sf-low) (v .sf-high) (few (c .before)))
 
+-- the nibbles laid out are the frame's, and nibbles
+laid : (c : tie.After-put-frame Inv-loop μ-loop) → let a = c .before .before .before .before .before .before .args in
+    (λ i. getD (c .put-frame .last .1 .1 .1 .1 .0) i 0) ≡ nibbleWith (a .header) (a .payload .now) (a .sum) (a .checksum)
+unfolding blank
+laid c =
+    let s = c .before .before .before .before .before .before in
+    laid-nibbles _ _ _ _ (search needs) (s .pre .1 .short) (c .put-frame .ensures)
+
+small : (c : tie.After-put-frame Inv-loop μ-loop) → (i : ℕ) → getD (c .put-frame .last .1 .1 .1 .1 .0) i 0 < 16
+small c i =
+    let s = c .before .before .before .before .before .before in
+    let bytes : Bytes (s .args .payload .now) = λ i. omega (arith, c .before .before .before .before .before .shared-slice-known .given i) in
+    rw (ap (λ (f : ℕ → ℕ). f i) (laid c)) (nibble-lt _ _ _ _ i (s .pre .1) bytes (search needs))
+
 fits : (c : tie.After-block-at Inv-loop μ-loop) → Fits (c .block-at .result)
 fits c =
-    let l = c .before .before .before in
+    let l = c .before .before .before .before .before in
     rw (c .block-at .ensures) (block-fits _ _ _ _ (l .before .before .before .before .pre .0) (omega (arith, later-few l)))
 
 data-nibbles-requires : tie.Need-data-nibbles-requires Inv-loop μ-loop
 data-nibbles-requires c κs = search needs
 
-add-nibbles : tie.Need-add-nibbles Inv-loop μ-loop
-add-nibbles c = omega (arith, few c)
+add-count : tie.Need-add-count Inv-loop μ-loop
+add-count c = omega (arith, few c)
 
 later-blocks-requires : tie.Need-later-blocks-requires Inv-loop μ-loop
 later-blocks-requires c κs = (search needs, search needs, few c)
@@ -57,36 +78,53 @@ later-blocks-requires c κs = (search needs, search needs, few c)
 add-blocks : tie.Need-add-blocks Inv-loop μ-loop
 add-blocks c = omega (arith, later-few c)
 
+put-frame-requires : tie.Need-put-frame-requires Inv-loop μ-loop
+unfolding blank
+put-frame-requires c κs = (search needs, refl)
+
+-- the constant's rows are compared with those by the rule, all at once
 loop-holds : tie.Need-loop-holds Inv-loop μ-loop
-loop-holds c = (search needs, frame-start _ _ _ _ _)
+unfolding tab rowOfCode row blank bit number codeword codewordBit parityBit parity parityOfAll
+loop-holds c = (refl, search needs, frame-start _ _ _ _ _)
 
 block-at-requires : tie.Need-block-at-requires Inv-loop μ-loop
-block-at-requires c κs = (search needs, omega (arith, later-few (c .before .before)))
+block-at-requires c κs = (search needs, omega (arith, later-few (c .before .before .before .before)))
 
-codewords-of-block-requires : tie.Need-codewords-of-block-requires Inv-loop μ-loop
-codewords-of-block-requires c κs = (fits c, search needs)
+grid-of-block-requires : tie.Need-grid-of-block-requires Inv-loop μ-loop
+grid-of-block-requires c κs =
+    let b = c .before .before in
+    let l = b .before .before .before .before .before in
+    let v = l .before .before .before .before .pre .0 in (
+      fits b,
+      block-low _ _ _ (count l) (b .before .before .loop .k) v (b .block-at .ensures) (omega (arith, later l)) (omega arith)
+          (omega (arith, few (l .before), l .before .data-nibbles .ensures)),
+      b .before .before .loop .inv .0,
+      small (b .before .before .before),
+    )
 
 write-block-requires : tie.Need-write-block-requires Inv-loop μ-loop
 write-block-requires c κs =
-    let b = c .before .before in
-    let l = b .before .before .before in
-    let p = l .before .before .before .before .pre in
-    (fits b, omega (arith, block-room _ _ _ (count l) (b .before .before .loop .k) (p .0) (b .block-at .ensures) (omega (arith, later l))))
+    let b = c .before .before .before .before in
+    let l = b .before .before .before .before .before in
+    let v = l .before .before .before .before .pre .0 in
+    (fits b, omega (arith, block-room _ _ _ (count l) (b .before .before .loop .k) v (b .block-at .ensures) (omega (arith, later l))))
 
 add-k : tie.Need-add-k Inv-loop μ-loop
-add-k c = omega (arith, later-few (c .before .before .before .before .before .before .before .before))
+add-k c = omega (arith, later-few (c .before .before .before .before .before .before .before .before .before .before .before .before))
 
 loop-less : tie.Need-loop-less Inv-loop μ-loop
 loop-less c = search needs
 
 loop-again : tie.Need-loop-again Inv-loop μ-loop
 loop-again c =
-    let b = c .before .before .before .before .before in
-    let l = b .before .before .before in
-    let p = l .before .before .before .before .pre in (
+    let b = c .before .before .before .before .before .before .before in
+    let l = b .before .before .before .before .before in
+    let p = l .before .before .before .before .pre in
+    let now = b .before .before .loop in (
+      now .inv .0,
       omega arith,
-      frame-more _ _ _ _ (p .0) _ (b .before .before .loop .k) (omega (arith, later l)) (p .2) (b .block-at .ensures)
-          (c .before .before .before .before .codewords-of-block .ensures) (b .before .before .loop .inv .1) (c .before .before .write-block .ensures),
+      frame-more _ _ _ _ (p .0) _ (now .k) (omega (arith, later l)) (p .2) (b .block-at .ensures) (c .before .before .before .before .grid-of-block .ensures) (now .inv .2)
+          (c .before .before .write-block .ensures),
     )
 
 same-length : tie.Need-same-length Inv-loop μ-loop
@@ -94,8 +132,8 @@ same-length c = search needs
 
 returns : tie.Need-returns Inv-loop μ-loop
 returns c =
-    let l = c .before .before in
-    frame-end _ _ _ _ (l .before .before .before .before .pre .0) _ (c .before .loop .k) (c .before .loop .inv .1) (omega (arith, later l))
+    let l = c .before .before .before .before in
+    frame-end _ _ _ _ (l .before .before .before .before .pre .0) _ (c .before .loop .k) (laid (c .before .before)) (c .before .loop .inv .2) (omega (arith, later l))
 
 pub write-frame-spec : {M : Type 1} → statement M
 write-frame-spec =
@@ -104,12 +142,13 @@ write-frame-spec =
     Inv-loop
     μ-loop
     data-nibbles-requires
-    add-nibbles
+    add-count
     later-blocks-requires
     add-blocks
+    put-frame-requires
     loop-holds
     block-at-requires
-    codewords-of-block-requires
+    grid-of-block-requires
     write-block-requires
     add-k
     loop-less

@@ -1,15 +1,10 @@
 use Prim.Native.Nat.{_*_, _-_, _+_, _≤_}
-use mathlib.Core.Path.{sym}
 use native.Mathlib.Omega.{arith}
 use Rattle.layout.specs.Layout.{blockOf, firstBlock, rowsOfFirst}
 use Rattle.layout.proofs.LayoutLaws.{rows-range, product-le, block-later}
 use borrow.Author.Needs.{needs}
 use Rattle.layout.proofs.block_at.Statement.{statement}
 use Rattle.layout.proofs.block_at.Tie as tie
-use Rattle.layout.proofs.block_at.Reads as reads
-use Rattle.layout.proofs.block_at.Lts as lts
-use Rattle.bits.proofs.wide.Reads as wide-reads
-use Rattle.layout.proofs.rows_of_later.Reads as rows-of-later-reads
 
 rows-small : (c : tie.After-rows-of-later) → c .rows-of-later .result * (c .before .before .before .args .b - 1) ≤ 12 * 255
 rows-small c =

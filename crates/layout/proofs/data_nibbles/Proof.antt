@@ -3,8 +3,6 @@ use native.Mathlib.Nat.{add-zero}
 use borrow.Author.Needs.{needs}
 use Rattle.layout.proofs.data_nibbles.Statement.{statement}
 use Rattle.layout.proofs.data_nibbles.Tie as tie
-use Rattle.layout.proofs.data_nibbles.Reads as reads
-use Rattle.layout.proofs.data_nibbles.Lts as lts
 
 mul-result : tie.Need-mul-result
 mul-result c = search needs

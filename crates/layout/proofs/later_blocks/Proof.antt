@@ -1,15 +1,11 @@
 use native.Mathlib.Omega.{arith}
-use Prim.Native.Nat.{_*_, _-_, _+_, _≤_, _<_, _/_}
-use mathlib.Core.Path.{_≡_, sym, _∙_, ap}
-use Rattle.layout.specs.Layout.{laterBlocks, remaining, rowsOfFirst, rowsOfLater}
+use Prim.Native.Nat.{_-_}
+use mathlib.Core.Path.{sym}
+use Rattle.layout.specs.Layout.{laterBlocks, remaining, rowsOfFirst}
 use Rattle.layout.proofs.LayoutLaws.{rows-range, no-later}
 use borrow.Author.Needs.{needs}
 use Rattle.layout.proofs.later_blocks.Statement.{statement}
 use Rattle.layout.proofs.later_blocks.Tie as tie
-use Rattle.layout.proofs.later_blocks.Reads as reads
-use Rattle.layout.proofs.later_blocks.Lts as lts
-use Rattle.bits.proofs.wide.Reads as wide-reads
-use Rattle.layout.proofs.rows_of_later.Reads as rows-of-later-reads
 
 wide-requires : tie.Need-wide-requires
 wide-requires c κs = search needs

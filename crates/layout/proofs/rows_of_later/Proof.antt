@@ -2,9 +2,6 @@ use Rattle.layout.specs.Layout.{rowsOfLater}
 use borrow.Author.Needs.{needs}
 use Rattle.layout.proofs.rows_of_later.Statement.{statement}
 use Rattle.layout.proofs.rows_of_later.Tie as tie
-use Rattle.layout.proofs.rows_of_later.Reads as reads
-use Rattle.layout.proofs.rows_of_later.Lts as lts
-use Rattle.bits.proofs.wide.Reads as wide-reads
 
 wide-requires : tie.Need-wide-requires
 wide-requires c κs = search needs

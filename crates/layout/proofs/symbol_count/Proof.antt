@@ -5,10 +5,6 @@ use Rattle.layout.proofs.LayoutLaws.{product-le, later-le}
 use borrow.Author.Needs.{needs}
 use Rattle.layout.proofs.symbol_count.Statement.{statement}
 use Rattle.layout.proofs.symbol_count.Tie as tie
-use Rattle.layout.proofs.symbol_count.Reads as reads
-use Rattle.layout.proofs.symbol_count.Lts as lts
-use Rattle.bits.proofs.wide.Reads as wide-reads
-use Rattle.layout.proofs.later_blocks.Reads as later-blocks-reads
 
 small : (c : tie.After-later-blocks) → (c .before .wide .result + 4) * c .later-blocks .result ≤ 8 * 103
 small c =

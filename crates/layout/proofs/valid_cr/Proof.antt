@@ -2,8 +2,6 @@ use borrow.Author.Tests.{lt-leb, le-leb}
 use Rattle.layout.specs.Layout.{validCr}
 use Rattle.layout.proofs.valid_cr.Statement.{statement}
 use Rattle.layout.proofs.valid_cr.Tie as tie
-use Rattle.layout.proofs.valid_cr.Reads as reads
-use Rattle.layout.proofs.valid_cr.Lts as lts
 
 returns : tie.Need-returns
 unfolding validCr

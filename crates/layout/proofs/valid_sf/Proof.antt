@@ -2,8 +2,6 @@ use borrow.Author.Tests.{lt-leb, le-leb}
 use Rattle.layout.specs.Layout.{validSf}
 use Rattle.layout.proofs.valid_sf.Statement.{statement}
 use Rattle.layout.proofs.valid_sf.Tie as tie
-use Rattle.layout.proofs.valid_sf.Reads as reads
-use Rattle.layout.proofs.valid_sf.Lts as lts
 
 returns : tie.Need-returns
 unfolding validSf

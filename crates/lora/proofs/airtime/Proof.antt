@@ -1,19 +1,10 @@
-use mathlib.Core.Path.{_≡_, sym, ap, _∙_}
-use native.Mathlib.Omega.{arith}
+use mathlib.Core.Path.{sym, _∙_}
 use borrow.Author.Tests.{not-true, not-false}
-use Prim.Native.Nat.{_≤_, _<_}
-use Rattle.lora.specs.declared.Counted.the-variants.{Symbols}
-use Rattle.lora.specs.Count.{countOf}
-use Rattle.lora.specs.Airtime.{airtimeOf, lasting}
+use Rattle.lora.specs.Airtime.{airtimeOf}
 use Rattle.lora.proofs.CountLaws.{Countable, counted, symbols-le, bandwidth-positive}
 use borrow.Author.Needs.{needs}
 use Rattle.lora.proofs.airtime.Statement.{statement}
 use Rattle.lora.proofs.airtime.Tie as tie
-use Rattle.lora.proofs.airtime.Reads as reads
-use Rattle.lora.proofs.airtime.Lts as lts
-use Rattle.lora.proofs.count.Reads as count-reads
-use Rattle.lora.proofs.microseconds.Reads as microseconds-reads
-use Rattle.lora.proofs.valid_bandwidth.Reads as valid-bandwidth-reads
 
 countable : (c : tie.After-counted2) → let a = c .before .before .before .args in Countable (a .s) (a .length) (c .counted2 .given .0 .0)
 countable c = counted _ _ _ (sym (c .before .before .count .ensures) ∙ c .counted2 .given .1)

@@ -5,8 +5,6 @@ use native.Mathlib.Nat.{one-mul}
 use borrow.Author.Needs.{needs}
 use Rattle.lora.proofs.limit.Statement.{statement}
 use Rattle.lora.proofs.limit.Tie as tie
-use Rattle.lora.proofs.limit.Reads as reads
-use Rattle.lora.proofs.limit.Lts as lts
 
 shl-result : tie.Need-shl-result
 shl-result c = search needs

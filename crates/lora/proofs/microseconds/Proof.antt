@@ -6,10 +6,6 @@ use Rattle.lora.specs.Airtime.{dividend, microseconds}
 use borrow.Author.Needs.{needs}
 use Rattle.lora.proofs.microseconds.Statement.{statement}
 use Rattle.lora.proofs.microseconds.Tie as tie
-use Rattle.lora.proofs.microseconds.Reads as reads
-use Rattle.lora.proofs.microseconds.Lts as lts
-use Rattle.bits.proofs.wide16.Reads as wide16-reads
-use Rattle.lora.proofs.limit.Reads as limit-reads
 
 small : (c : tie.After-limit) → (4 * (c .before .wide16 .result + c .before .before .args .symbols) + 17) * c .limit .result ≤ 265485 * 4096
 small c =

@@ -4,10 +4,6 @@ use Rattle.lora.specs.Count.{nibblesOf, symbolsOf}
 use borrow.Author.Needs.{needs}
 use Rattle.lora.proofs.symbols_of.Statement.{statement}
 use Rattle.lora.proofs.symbols_of.Tie as tie
-use Rattle.lora.proofs.symbols_of.Reads as reads
-use Rattle.lora.proofs.symbols_of.Lts as lts
-use Rattle.layout.proofs.data_nibbles.Reads as data-nibbles-reads
-use Rattle.layout.proofs.symbol_count.Reads as symbol-count-reads
 
 data-nibbles-requires : tie.Need-data-nibbles-requires
 data-nibbles-requires c κs = search needs

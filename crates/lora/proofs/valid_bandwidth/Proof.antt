@@ -2,8 +2,6 @@ use borrow.Author.Tests.{eq-eqb, ne-eqb}
 use Rattle.lora.specs.Airtime.{validBandwidth}
 use Rattle.lora.proofs.valid_bandwidth.Statement.{statement}
 use Rattle.lora.proofs.valid_bandwidth.Tie as tie
-use Rattle.lora.proofs.valid_bandwidth.Reads as reads
-use Rattle.lora.proofs.valid_bandwidth.Lts as lts
 
 returns : tie.Need-returns
 unfolding validBandwidth

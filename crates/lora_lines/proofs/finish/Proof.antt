@@ -3,10 +3,6 @@ use lib.Seq.{length-take-le}
 use borrow.Author.Needs.{needs}
 use Rattle.lora_lines.proofs.finish.Statement.{statement}
 use Rattle.lora_lines.proofs.finish.Tie as tie
-use Rattle.lora_lines.proofs.finish.Reads as reads
-use Rattle.lora_lines.proofs.finish.Lts as lts
-use Rattle.io.proofs.write_all.Reads as write-all-reads
-use Rattle.lora_lines.proofs.answer_last.Reads as answer-last-reads
 
 -- src/main.rt:174:9
 answer-last-requires : tie.Need-answer-last-requires

@@ -3,8 +3,6 @@ use lib.ListN.{length}
 use borrow.Author.Needs.{needs}
 use Rattle.lora_lines.proofs.line_end.Statement.{statement}
 use Rattle.lora_lines.proofs.line_end.Tie as tie
-use Rattle.lora_lines.proofs.line_end.Reads as reads
-use Rattle.lora_lines.proofs.line_end.Lts as lts
 
 abbrev Inv-loop : tie.InvT-loop
 Inv-loop chunk from i₀ i = (from ≤ i) × (i ≤ length chunk)

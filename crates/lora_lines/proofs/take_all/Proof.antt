@@ -1,14 +1,9 @@
 use mathlib.Core.Path.{_≡_}
 use lib.ListN.{length}
-use Rattle.lora_lines.specs.Day.{Going, GoingOn}
+use Rattle.lora_lines.specs.Day.{Going}
 use borrow.Author.Needs.{needs}
 use Rattle.lora_lines.proofs.take_all.Statement.{statement}
 use Rattle.lora_lines.proofs.take_all.Tie as tie
-use Rattle.lora_lines.proofs.take_all.Reads as reads
-use Rattle.lora_lines.proofs.take_all.Lts as lts
-use Rattle.lora_lines.proofs.cut_short.Reads as cut-short-reads
-use Rattle.lora_lines.proofs.take_some.Reads as take-some-reads
-use Rattle.text.proofs.begin.Reads as begin-reads
 
 abbrev Inv-loop : tie.InvT-loop
 Inv-loop numbers₀ out₀ day₀ turns₀ numbers out day turns = Going day numbers out × (length numbers ≡ length numbers₀) × (length out ≡ length out₀) × (length numbers₀ ≡ 834)

@@ -5,9 +5,6 @@ use Rattle.lora_lines.specs.Day.{Going}
 use borrow.Author.Needs.{needs}
 use Rattle.lora_lines.proofs.take_chunk.Statement.{statement}
 use Rattle.lora_lines.proofs.take_chunk.Tie as tie
-use Rattle.lora_lines.proofs.take_chunk.Reads as reads
-use Rattle.lora_lines.proofs.take_chunk.Lts as lts
-use Rattle.lora_lines.proofs.take_piece.Reads as take-piece-reads
 
 abbrev Inv-loop : tie.InvT-loop
 Inv-loop chunk numbers₀ out₀ step₀ numbers out step = Going (step .day) numbers out × (step .at ≤ length chunk) × (length numbers ≡ length numbers₀) × (length out ≡ length out₀)

@@ -3,9 +3,6 @@ use lib.Seq.{length-take-le}
 use borrow.Author.Needs.{needs}
 use Rattle.lora_lines.proofs.with_room.Statement.{statement}
 use Rattle.lora_lines.proofs.with_room.Tie as tie
-use Rattle.lora_lines.proofs.with_room.Reads as reads
-use Rattle.lora_lines.proofs.with_room.Lts as lts
-use Rattle.io.proofs.write_all.Reads as write-all-reads
 
 -- src/main.rt:45:8
 sub-if1 : tie.Need-sub-if1

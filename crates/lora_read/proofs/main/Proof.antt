@@ -3,11 +3,6 @@ use lib.Seq.{length-take-le}
 use borrow.Author.Needs.{needs}
 use Rattle.lora_read.proofs.main.Statement.{statement}
 use Rattle.lora_read.proofs.main.Tie as tie
-use Rattle.lora_read.proofs.main.Reads as reads
-use Rattle.lora_read.proofs.main.Lts as lts
-use Rattle.io.proofs.write_all.Reads as write-all-reads
-use Rattle.lora_read.proofs.take_all.Reads as take-all-reads
-use Rattle.text.proofs.answer.Reads as answer-reads
 
 -- src/main.rt:72:25
 slice-aggregate-take-all : tie.Need-slice-aggregate-take-all

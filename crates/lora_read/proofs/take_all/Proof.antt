@@ -1,16 +1,9 @@
 use mathlib.Core.Path.{_≡_}
-use Prim.Native.Nat.{ℕ}
 use lib.ListN.{length}
 use Rattle.text.specs.Scan.{Sane}
-use Rattle.lora_read.specs.Turn.{KeptBy}
 use borrow.Author.Needs.{needs}
 use Rattle.lora_read.proofs.take_all.Statement.{statement}
 use Rattle.lora_read.proofs.take_all.Tie as tie
-use Rattle.lora_read.proofs.take_all.Reads as reads
-use Rattle.lora_read.proofs.take_all.Lts as lts
-use Rattle.lora_read.proofs.failed.Reads as failed-reads
-use Rattle.lora_read.proofs.take_some.Reads as take-some-reads
-use Rattle.text.proofs.begin.Reads as begin-reads
 
 abbrev Inv-loop : tie.InvT-loop
 Inv-loop numbers₀ scan₀ turns₀ numbers scan turns = (length numbers₀ ≡ 834) × Sane scan numbers

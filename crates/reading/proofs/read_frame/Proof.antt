@@ -6,7 +6,7 @@ use Rattle.layout.specs.Layout.{blockOf, firstBlock, laterBlocks}
 use Rattle.layout.proofs.LayoutLaws.{base-next, base-end, later-le}
 use Rattle.reading.specs.Heard.{heardAt, readRow}
 use Rattle.reading.proofs.ReadLoop.{Frame, frame-none, frame-le, frame-long, frame-end, frame-more, frame-stop, smaller-fits, walk-range, walk-le}
-use Rattle.reading.proofs.RowLaws.{row-heard, listed-lt, Placed, placed}
+use Rattle.reading.proofs.RowLaws.{row-heard, Placed, placed}
 use borrow.Author.Needs.{needs}
 use Rattle.reading.proofs.read_frame.Statement.{statement}
 use Rattle.reading.proofs.read_frame.Tie as tie
@@ -58,10 +58,10 @@ same : (c : tie.After-read-rows Inv-loop μ-loop) →
     let a = c .before .before .before .before .before .before .before .before .before .args in
     let b = c .before .before .before .before .block-at .result in
     (i : ℕ) → i < c .before .before .before .least .result →
-    readRow (b .rate) (c .before .before .codewords-of-block .result) i ≡ heardAt (a .sf) (a .low) (a .cr) (a .symbols .now) (b .base + i)
+    readRow (b .rate) (c .before .before .grid-of-block .result) i ≡ heardAt (a .sf) (a .low) (a .cr) (a .symbols .now) (b .base + i)
 same c i h =
     let d = c .before .before .before .before in
-    row-heard _ _ _ _ _ _ _ i (next d .valid) (next d .is) (c .before .before .codewords-of-block .ensures) (omega (arith, rows-fit (c .before .before .before)))
+    row-heard _ _ _ _ _ _ _ i (next d .valid) (next d .is) (c .before .before .grid-of-block .ensures) (omega (arith, rows-fit (c .before .before .before)))
 
 later-blocks-requires : tie.Need-later-blocks-requires Inv-loop μ-loop
 later-blocks-requires c κs = search needs
@@ -82,8 +82,8 @@ sub-least c = omega (arith, next c .below)
 least-requires : tie.Need-least-requires Inv-loop μ-loop
 least-requires c κs = search needs
 
-codewords-of-block-requires : tie.Need-codewords-of-block-requires Inv-loop μ-loop
-codewords-of-block-requires c κs = let p = c .before .before .before .before .before .before .pre in
+grid-of-block-requires : tie.Need-grid-of-block-requires Inv-loop μ-loop
+grid-of-block-requires c κs = let p = c .before .before .before .before .before .before .pre in
     (next (c .before) .fits, omega (arith, next (c .before) .within, p .3))
 
 read-rows-requires : tie.Need-read-rows-requires Inv-loop μ-loop
@@ -95,7 +95,6 @@ read-rows-requires c κs = let b = next (c .before .before .before) in
       omega (arith, b .fits .rows-high, m .0),
       omega (arith, m .1, p .2),
       frame-long (l .inv .1) ∙ p .4,
-      λ i h. listed-lt _ _ _ i (c .before .codewords-of-block .ensures) (omega (arith, m .0)),
     )
 
 add-repairs : tie.Need-add-repairs Inv-loop μ-loop
@@ -145,7 +144,7 @@ read-frame-spec =
     block-at-requires
     sub-least
     least-requires
-    codewords-of-block-requires
+    grid-of-block-requires
     read-rows-requires
     add-repairs
     add-t19

@@ -1,42 +1,56 @@
 use Rattle.bits.specs.Bit.{asBit}
 use Rattle.bits.proofs.Searches.{asBit-le}
 use Rattle.codeword.specs.Codeword.{nibbleOf, isRepaired, isUnreadable}
-use Prim.Native.Nat.{_≤_, _-_}
+use Prim.Native.Nat.{_≤_, _-_, _+_}
 use mathlib.Core.Path.{_≡_, sym, ap, _∙_}
 use native.Mathlib.Omega.{arith}
 use Rattle.bits.proofs.Fill.{FilledAt, filledAt-none, filledAt-more}
 use Rattle.reading.specs.Heard.{readRow, nibbleAt}
+use Rattle.reading.proofs.RowLaws.{row-lt}
 use Rattle.reading.proofs.ReadLoop.{Clear, clear-none, clear-more, clear-le, walk-stop, walk-end}
 use borrow.Author.Needs.{needs}
 use Rattle.reading.proofs.read_rows.Statement.{statement}
 use Rattle.reading.proofs.read_rows.Tie as tie
 
 abbrev Inv-loop : tie.InvT-loop
-Inv-loop rate n at nibbles₀ codewords repairs₀ i₀ nibbles repairs i = (i ≤ n) × Clear (readRow rate codewords) i repairs × FilledAt (nibbleAt (readRow rate codewords)) nibbles₀ at i nibbles
+Inv-loop rate n at nibbles₀ g columns repairs₀ i₀ nibbles repairs i =
+    (columns ≡ 4 + rate) × (i ≤ n) × Clear (readRow rate g) i repairs × FilledAt (nibbleAt (readRow rate g)) nibbles₀ at i nibbles
 
 abbrev μ-loop : tie.MeasureT-loop
-μ-loop rate n at nibbles₀ codewords repairs₀ i₀ nibbles repairs i = n - i
+μ-loop rate n at nibbles₀ g columns repairs₀ i₀ nibbles repairs i = n - i
+
+-- what a row is read as
+heard : (c : tie.After-read-word Inv-loop μ-loop) → let a = c .before .before .before .before .before .before .args in
+    c .read-word .result ≡ readRow (a .rate) (a .t2) (c .before .before .before .before .loop .i)
+unfolding readRow
+heard c = c .read-word .ensures ∙ rw (c .before .codeword-of-grid .ensures, c .before .before .before .before .loop .inv .0)
 
 -- what the test of a codeword says of it
-flag : (c : tie.After-unreadable Inv-loop μ-loop) → let a = c .before .before .before .before .args in isUnreadable (readRow (a .rate) (a .t2) (c .before .before .before .loop .i)) ≡ c .unreadable .result
-unfolding readRow
-flag c = sym (c .unreadable .ensures ∙ ap isUnreadable (c .before .read-word .ensures))
+flag : (c : tie.After-unreadable Inv-loop μ-loop) → let a = c .before .before .before .before .before .before .before .args in
+    isUnreadable (readRow (a .rate) (a .t2) (c .before .before .before .before .before .loop .i)) ≡ c .unreadable .result
+flag c = sym (c .unreadable .ensures ∙ ap isUnreadable (heard (c .before)))
+
+wide-requires : tie.Need-wide-requires Inv-loop μ-loop
+wide-requires c κs = search needs
+
+add-columns : tie.Need-add-columns Inv-loop μ-loop
+add-columns c = search needs
 
 loop-holds : tie.Need-loop-holds Inv-loop μ-loop
-loop-holds c = (search needs, clear-none _, filledAt-none _ _ _ (search needs))
+loop-holds c = (search needs, search needs, clear-none _, filledAt-none _ _ _ (search needs))
 
-array-read-read-word : tie.Need-array-read-read-word Inv-loop μ-loop
-array-read-read-word c = search needs
+codeword-of-grid-requires : tie.Need-codeword-of-grid-requires Inv-loop μ-loop
+codeword-of-grid-requires c κs = search needs
 
 read-word-requires : tie.Need-read-word-requires Inv-loop μ-loop
-read-word-requires c κs = (search needs, c .before .before .pre .4 _ (search needs))
+read-word-requires c κs = (search needs, rw (c .codeword-of-grid .ensures, ← c .before .before .before .loop .inv .0) (row-lt _ _ _))
 
 unreadable-requires : tie.Need-unreadable-requires Inv-loop μ-loop
 unreadable-requires c κs = search needs
 
 returns : tie.Need-returns Inv-loop μ-loop
-returns c = let l = c .before .before .before .before .loop in
-    walk-stop (l .inv .1) (l .inv .2) (search needs) (flag (c .before) ∙ c .if1 .taken)
+returns c = let l = c .before .before .before .before .before .before .loop in
+    walk-stop (l .inv .2) (l .inv .3) (search needs) (flag (c .before) ∙ c .if1 .taken)
 
 nibble-requires : tie.Need-nibble-requires Inv-loop μ-loop
 nibble-requires c κs = search needs
@@ -54,8 +68,8 @@ cast-repairs : tie.Need-cast-repairs Inv-loop μ-loop
 cast-repairs c = search needs
 
 add-repairs : tie.Need-add-repairs Inv-loop μ-loop
-add-repairs c = let l = c .before .before .before .before .before .before .loop in
-    omega (arith, clear-le (l .inv .1), asBit-le (c .repaired .result))
+add-repairs c = let l = c .before .before .before .before .before .before .before .before .loop in
+    omega (arith, clear-le (l .inv .2), asBit-le (c .repaired .result))
 
 add-i : tie.Need-add-i Inv-loop μ-loop
 add-i c = search needs
@@ -64,18 +78,18 @@ loop-less : tie.Need-loop-less Inv-loop μ-loop
 loop-less c = search needs
 
 loop-again : tie.Need-loop-again Inv-loop μ-loop
-unfolding readRow
-loop-again c = let l = c .before .before .before .before .before .before .loop in
-    let w = c .before .before .before .before .read-word .ensures in (
+loop-again c = let l = c .before .before .before .before .before .before .before .before .loop in
+    let w = heard (c .before .before .before .before) in (
+      l .inv .0,
       search needs,
-      clear-more (l .inv .1) (flag (c .before .before .before) ∙ c .before .before .if1 .left) (ap asBit (c .repaired .ensures ∙ ap isRepaired w)),
-      filledAt-more (l .inv .2) (search needs) (c .before .nibble .ensures ∙ ap nibbleOf w),
+      clear-more (l .inv .2) (flag (c .before .before .before) ∙ c .before .before .if1 .left) (ap asBit (c .repaired .ensures ∙ ap isRepaired w)),
+      filledAt-more (l .inv .3) (search needs) (c .before .nibble .ensures ∙ ap nibbleOf w),
     )
 
 returns-2 : tie.Need-returns-2 Inv-loop μ-loop
 returns-2 c = let l = c .before .loop in
-    let e : l .i ≡ c .before .before .args .n = omega arith in
-    walk-end (rw e at (l .inv .1)) (rw e at (l .inv .2))
+    let e : l .i ≡ c .before .before .before .args .n = omega arith in
+    walk-end (rw e at (l .inv .2)) (rw e at (l .inv .3))
 
 pub read-rows-spec : {M : Type 1} → statement M
 read-rows-spec =
@@ -83,8 +97,10 @@ read-rows-spec =
     (tie.spec
     Inv-loop
     μ-loop
+    wide-requires
+    add-columns
     loop-holds
-    array-read-read-word
+    codeword-of-grid-requires
     read-word-requires
     unreadable-requires
     returns

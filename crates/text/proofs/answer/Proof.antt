@@ -1,22 +1,12 @@
-use mathlib.Core.Path.{_≡_, sym, ap, _∙_}
-use mathlib.Core.Bool.{Bool, true, false}
+use mathlib.Core.Path.{sym, _∙_}
 use Prim.Native.Nat.{_≤_}
 use borrow.Author.Tests.{not-true, not-false}
-use lib.Dec.{eqb}
-use Rattle.text.specs.Answer.{Answered}
-use Rattle.text.specs.Scan.{isFrame, taken}
-use Rattle.text.specs.Text.{answerTo}
+use Rattle.text.specs.Scan.{taken}
 use Rattle.text.proofs.AnswerLaws.{drop-take, frame-two}
 use Rattle.text.proofs.ScanLaws.{frame-is}
 use borrow.Author.Needs.{needs}
 use Rattle.text.proofs.answer.Statement.{statement}
 use Rattle.text.proofs.answer.Tie as tie
-use Rattle.text.proofs.answer.Reads as reads
-use Rattle.text.proofs.answer.Lts as lts
-use Rattle.text.proofs.answer_frame.Reads as answer-frame-reads
-use Rattle.text.proofs.finish.Reads as finish-reads
-use Rattle.text.proofs.is_frame.Reads as is-frame-reads
-use Rattle.text.proofs.line_for.Reads as line-for-reads
 
 finish-requires : tie.Need-finish-requires
 finish-requires c κs = search needs

@@ -1,19 +1,8 @@
-use mathlib.Core.Path.{_≡_, sym, ap, _∙_}
-use mathlib.Core.List.{List}
-use lib.ListN.{length}
 use Rattle.bits.specs.Tab.{blank}
-use Rattle.bits.proofs.Tabs.{length-blank}
-use Rattle.lora.specs.Read.{readOf, Reading}
-use Rattle.text.specs.Answer.{Answered, Shown}
 use Rattle.text.proofs.AnswerLaws.{read-shown, frame-line}
 use borrow.Author.Needs.{needs}
 use Rattle.text.proofs.answer_frame.Statement.{statement}
 use Rattle.text.proofs.answer_frame.Tie as tie
-use Rattle.text.proofs.answer_frame.Reads as reads
-use Rattle.text.proofs.answer_frame.Lts as lts
-use Rattle.lora.proofs.read.Reads as read-reads
-use Rattle.text.proofs.line_for.Reads as line-for-reads
-use Rattle.text.proofs.narrow.Reads as narrow-reads
 
 narrow-requires : tie.Need-narrow-requires
 narrow-requires c κs = search needs

@@ -1,17 +1,10 @@
 use Rattle.line.proofs.LineLaws.{line-length}
 use Prim.Native.Nat.{_≤_}
-use mathlib.Core.Path.{_≡_, sym, ap, _∙_}
-use native.Mathlib.Omega.{arith}
-use lib.ListN.{length, take}
+use mathlib.Core.Path.{sym}
 use lib.Seq.{length-take-le}
-use Rattle.text.specs.Answer.{Shown}
-use Rattle.line.specs.Line.{lineOf}
 use borrow.Author.Needs.{needs}
 use Rattle.text.proofs.line_for.Statement.{statement}
 use Rattle.text.proofs.line_for.Tie as tie
-use Rattle.text.proofs.line_for.Reads as reads
-use Rattle.text.proofs.line_for.Lts as lts
-use Rattle.line.proofs.write_line.Reads as write-line-reads
 
 fits : (c : tie.After-received2) → c .received2 .given .0 .0 ≤ 255
 fits c = rw (c .received2 .given .1) at (c .before .before .before .pre .0)

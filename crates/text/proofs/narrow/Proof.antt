@@ -2,8 +2,6 @@ use borrow.Author.Tests.{le-leb, lt-leb}
 use borrow.Author.Needs.{needs}
 use Rattle.text.proofs.narrow.Statement.{statement}
 use Rattle.text.proofs.narrow.Tie as tie
-use Rattle.text.proofs.narrow.Reads as reads
-use Rattle.text.proofs.narrow.Lts as lts
 
 cast-result : tie.Need-cast-result
 cast-result c = search needs

@@ -1,0 +1,47 @@
+//! One operation of the product's library many times over, to be run under a
+//! profiler: `profile code|read SF CR BYTES TIMES`.
+
+#[cfg(not(linked))]
+fn main() -> std::process::ExitCode {
+    eprintln!("profile needs the product's library: set LORA_LIB_DIR to the folder of liblora_c.a");
+    std::process::ExitCode::from(2)
+}
+
+#[cfg(linked)]
+fn main() {
+    use reference::random::Random;
+    use reference::types::Settings;
+    use reference::{plain, safe, MOST_BYTES, MOST_SYMBOLS};
+    use std::hint::black_box;
+
+    let words: Vec<String> = std::env::args().skip(1).collect();
+    let [operation, numbers @ ..] = &words[..] else {
+        panic!("profile code|read SF CR BYTES TIMES");
+    };
+    let numbers: Vec<usize> = numbers.iter().map(|word| word.parse().unwrap()).collect();
+    let [sf, cr, length, times] = numbers[..] else {
+        panic!("profile code|read SF CR BYTES TIMES");
+    };
+    let settings = Settings {
+        sf: sf as u8,
+        low: false,
+        cr: cr as u8,
+        checksum: true,
+    };
+    let payload = Random::new(length as u64).bytes(length);
+    let mut symbols = vec![0; MOST_SYMBOLS];
+    let count = plain::code(&settings, &payload, &mut symbols).unwrap();
+    let frame = symbols[..count].to_vec();
+    let mut bytes = [0; MOST_BYTES];
+    for _ in 0..times {
+        match operation.as_str() {
+            "code" => {
+                black_box(safe::code(&settings, &payload, black_box(&mut symbols)).unwrap());
+            }
+            "read" => {
+                black_box(safe::read(settings.sf, false, &frame, black_box(&mut bytes)).unwrap());
+            }
+            _ => panic!("profile code|read SF CR BYTES TIMES"),
+        }
+    }
+}
