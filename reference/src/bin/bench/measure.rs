@@ -10,9 +10,9 @@ use std::time::{Duration, Instant};
 /// not much longer, so that some repeats go undisturbed on a busy computer.
 const REPEAT: Duration = Duration::from_micros(300);
 /// The best of so many repeats counts.
-const REPEATS: usize = 40;
-/// The implementations take turns, so that a slow spell meets them all.
-const ROUNDS: usize = 5;
+const REPEATS: usize = 5;
+/// The implementations take short turns, so that a slow spell meets them all.
+const ROUNDS: usize = 50;
 
 struct Implementation {
     name: &'static str,

@@ -1,4 +1,4 @@
-//! Holds the product's library against `plain`: `compare SEED COUNT`.
+//! Holds the product's library against `plain`: `compare [SEED [COUNT]]`.
 
 #[cfg(linked)]
 mod case;
@@ -10,7 +10,7 @@ fn main() -> std::process::ExitCode {
     eprintln!(
         "compare needs the product's library: set LORA_LIB_DIR to the folder of liblora_c.a,"
     );
-    eprintln!("then: cargo run --release --bin compare -- SEED COUNT");
+    eprintln!("then: cargo run --release --bin compare -- [SEED [COUNT]]");
     std::process::ExitCode::from(2)
 }
 
@@ -23,10 +23,11 @@ fn main() -> std::process::ExitCode {
         .map(|word| word.parse().ok())
         .collect();
     let (seed, count) = match arguments.as_deref() {
+        Some([]) => (1, 1_000_000),
         Some([seed]) => (*seed, 1_000_000),
         Some([seed, count]) => (*seed, *count),
         _ => {
-            eprintln!("usage: compare SEED COUNT");
+            eprintln!("usage: compare [SEED [COUNT]]");
             return ExitCode::from(2);
         }
     };
