@@ -198,7 +198,7 @@ fn none_over(sf: u8, symbols: &[u16], from: usize, end: usize) -> bool
     let m = limit(sf);
     let mut none = true;
     for i in from..end {
-        if symbols[i] >= m {
+        if m <= symbols[i] {
             none = false;
         }
     }
