@@ -81,6 +81,13 @@ const ROWS: [[bool; 8]; 64] = [
     [true, true, true, true, true, true, true, true],
 ];
 
+// The same, for a caller that lends them: a constant array is copied at each use.
+fn rows_of_code() -> [[bool; 8]; 64]
+    ensures { λ r. ⌜ r ≡ tab 64 rowOfCode ⌝ }
+{
+    ROWS
+}
+
 // A byte gives its low nibble first.
 fn put_byte(byte: u8, at: usize, nibbles: &mut [u8; 532])
     requires { ⌜ (at ≤ 530) × (length (now nibbles) ≡ 532) ⌝ }
@@ -99,7 +106,7 @@ fn put_header(header: [u8; 5], nibbles: &mut [u8; 532])
     }
 }
 
-// The payload behind the header, whitened. The table is lent, since a constant array is copied at each use.
+// The payload behind the header, whitened.
 fn put_payload(table: &[u8; 255], payload: &[u8], nibbles: &mut [u8; 532])
     requires { ⌜ (now table ≡ tab 255 whitening) × (length (now payload) ≤ 255) × (length (now nibbles) ≡ 532) ⌝ }
     ensures { λ _. ⌜ now (nibbles .exit) ≡ overAt 5 (2 * length (now (payload .entry))) (whitenedNibble (now (payload .entry))) (now (nibbles .entry)) ⌝ }
@@ -180,7 +187,7 @@ pub fn write_frame(
     let blocks = layout::later_blocks(sf, low, count) + 1;
     let mut nibbles = [FILLER; 532];
     put_frame(header, payload, sum, checksum, &mut nibbles);
-    let rows = ROWS;
+    let rows = rows_of_code();
     for k in 0..blocks {
         let b = layout::block_at(sf, low, cr, k);
         write_block(b, grid_of_block(b, &rows, &nibbles), out);

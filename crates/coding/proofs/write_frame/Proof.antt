@@ -2,11 +2,8 @@ use mathlib.Core.Path.{_≡_, refl, ap, _∙_}
 use Prim.Native.Nat.{ℕ, _≤_, _<_, _-_, _+_}
 use native.Mathlib.Omega.{arith}
 use lib.ListN.{length, getD}
-use Rattle.bits.specs.Bit.{bit, number}
 use Rattle.bits.specs.Tab.{tab, blank}
 use Rattle.bits.proofs.Fill.{Filled}
-use Rattle.block.specs.Grid.{row}
-use Rattle.codeword.specs.Codeword.{parity, parityOfAll, parityBit, codewordBit, codeword}
 use Rattle.layout.specs.Layout.{Fits, blockOf, laterBlocks, dataNibbles}
 use Rattle.layout.proofs.LayoutLaws.{later-le, data-le, block-fits}
 use Rattle.coding.specs.Nibbles.{nibbleWith}
@@ -63,7 +60,7 @@ small c i =
 
 fits : (c : tie.After-block-at Inv-loop μ-loop) → Fits (c .block-at .result)
 fits c =
-    let l = c .before .before .before .before .before in
+    let l = c .before .before .before .before .before .before in
     rw (c .block-at .ensures) (block-fits _ _ _ _ (l .before .before .before .before .pre .0) (omega (arith, later-few l)))
 
 data-nibbles-requires : tie.Need-data-nibbles-requires Inv-loop μ-loop
@@ -82,35 +79,36 @@ put-frame-requires : tie.Need-put-frame-requires Inv-loop μ-loop
 unfolding blank
 put-frame-requires c κs = (search needs, refl)
 
--- the constant's rows are compared with those by the rule, all at once
+rows-of-code-requires : tie.Need-rows-of-code-requires Inv-loop μ-loop
+rows-of-code-requires c κs = search needs
+
 loop-holds : tie.Need-loop-holds Inv-loop μ-loop
-unfolding tab rowOfCode row blank bit number codeword codewordBit parityBit parity parityOfAll
-loop-holds c = (refl, search needs, frame-start _ _ _ _ _)
+loop-holds c = (c .rows-of-code .ensures, search needs, frame-start _ _ _ _ _)
 
 block-at-requires : tie.Need-block-at-requires Inv-loop μ-loop
-block-at-requires c κs = (search needs, omega (arith, later-few (c .before .before .before .before)))
+block-at-requires c κs = (search needs, omega (arith, later-few (c .before .before .before .before .before)))
 
 grid-of-block-requires : tie.Need-grid-of-block-requires Inv-loop μ-loop
 grid-of-block-requires c κs =
     let b = c .before .before in
-    let l = b .before .before .before .before .before in
+    let l = b .before .before .before .before .before .before in
     let v = l .before .before .before .before .pre .0 in (
       fits b,
       block-low _ _ _ (count l) (b .before .before .loop .k) v (b .block-at .ensures) (omega (arith, later l)) (omega arith)
           (omega (arith, few (l .before), l .before .data-nibbles .ensures)),
       b .before .before .loop .inv .0,
-      small (b .before .before .before),
+      small (b .before .before .before .before),
     )
 
 write-block-requires : tie.Need-write-block-requires Inv-loop μ-loop
 write-block-requires c κs =
     let b = c .before .before .before .before in
-    let l = b .before .before .before .before .before in
+    let l = b .before .before .before .before .before .before in
     let v = l .before .before .before .before .pre .0 in
     (fits b, omega (arith, block-room _ _ _ (count l) (b .before .before .loop .k) v (b .block-at .ensures) (omega (arith, later l))))
 
 add-k : tie.Need-add-k Inv-loop μ-loop
-add-k c = omega (arith, later-few (c .before .before .before .before .before .before .before .before .before .before .before .before))
+add-k c = omega (arith, later-few (c .before .before .before .before .before .before .before .before .before .before .before .before .before))
 
 loop-less : tie.Need-loop-less Inv-loop μ-loop
 loop-less c = search needs
@@ -118,7 +116,7 @@ loop-less c = search needs
 loop-again : tie.Need-loop-again Inv-loop μ-loop
 loop-again c =
     let b = c .before .before .before .before .before .before .before in
-    let l = b .before .before .before .before .before in
+    let l = b .before .before .before .before .before .before in
     let p = l .before .before .before .before .pre in
     let now = b .before .before .loop in (
       now .inv .0,
@@ -132,8 +130,8 @@ same-length c = search needs
 
 returns : tie.Need-returns Inv-loop μ-loop
 returns c =
-    let l = c .before .before .before .before in
-    frame-end _ _ _ _ (l .before .before .before .before .pre .0) _ (c .before .loop .k) (laid (c .before .before)) (c .before .loop .inv .2) (omega (arith, later l))
+    let l = c .before .before .before .before .before in
+    frame-end _ _ _ _ (l .before .before .before .before .pre .0) _ (c .before .loop .k) (laid (c .before .before .before)) (c .before .loop .inv .2) (omega (arith, later l))
 
 pub write-frame-spec : {M : Type 1} → statement M
 write-frame-spec =
@@ -146,6 +144,7 @@ write-frame-spec =
     later-blocks-requires
     add-blocks
     put-frame-requires
+    rows-of-code-requires
     loop-holds
     block-at-requires
     grid-of-block-requires
