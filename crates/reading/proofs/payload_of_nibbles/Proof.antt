@@ -1,6 +1,9 @@
 use Prim.Native.Nat.{ℕ, _≤_, _-_}
 use native.Mathlib.Omega.{arith}
-use mathlib.Core.Path.{_≡_}
+use mathlib.Core.Path.{_≡_, ap, ap₂, _∙_}
+use mathlib.Core.List.{List}
+use lib.Bits.{bitXor}
+use lib.ListN.{getD}
 use Rattle.bits.specs.Tab.{tab, blank}
 use Rattle.bits.proofs.Tabs.{length-blank, getD-tab}
 use Rattle.bits.proofs.Fill.{Filled, filled-none, filled-more, filled-end}
@@ -40,11 +43,10 @@ loop-less c = search needs
 
 loop-again : tie.Need-loop-again Inv-loop μ-loop
 unfolding payloadByte
-loop-again c = let l = c .before .before .loop in (
-  l .inv .0,
-  search needs,
-  filled-more (l .inv .2) (omega (arith, length-blank {A = ℕ} 255 0)) (rw (c .byte-of-nibbles .ensures, l .inv .0, getD-tab 255 whitening (l .p) 0 (search needs))),
-)
+loop-again c =
+    let l = c .before .before .loop in
+    let white = ap (λ (t : List ℕ). getD t (l .p) 0) (l .inv .0) ∙ getD-tab 255 whitening (l .p) 0 (search needs) in
+    (l .inv .0, search needs, filled-more (l .inv .2) (omega (arith, length-blank {A = ℕ} 255 0)) (ap₂ bitXor (c .byte-of-nibbles .ensures) white))
 
 returns : tie.Need-returns Inv-loop μ-loop
 returns c = filled-end (c .before .loop .inv .2) (omega arith)
