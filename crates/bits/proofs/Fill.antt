@@ -5,6 +5,7 @@ use mathlib.Core.List.{List}
 use Prim.Native.Nat.{ℕ, _+_, _<_, _≤_}
 use native.Mathlib.Omega.{arith}
 use lib.ListN.{length, getD, set, length-set}
+use lib.Seq.{set-getD}
 use Rattle.bits.specs.Tab.{over, overAt}
 use Rattle.bits.proofs.Tabs.{over-none, over-more, getD-over-rest, overAt-none, overAt-more, overAt-on, length-over, length-overAt, over-on}
 
@@ -31,6 +32,10 @@ module _ {A : Type 0} where
   -- what is not yet filled is as it was
   pub filled-rest : {f : ℕ → A} {d : List A} {n : ℕ} {l : List A} (z : A) → Filled f d n l → getD l n z ≡ getD d n z
   filled-rest {f} {d} {n} {l} z p = rw (p .is) (getD-over-rest n f d n z (omega arith))
+
+  -- a cell that is by the rule already
+  pub filled-skip : {f : ℕ → A} {d : List A} {n : ℕ} {l : List A} (z : A) → Filled f d n l → n < length d → getD d n z ≡ f n → Filled f d (n + 1) l
+  filled-skip {f} {d} {n} {l} z p h e = rw (set-getD l n z) at (filled-more p h (filled-rest z p ∙ e))
 
   pub filled-end : {f : ℕ → A} {d : List A} {m n : ℕ} {l : List A} → Filled f d m l → m ≡ n → l ≡ over n f d
   filled-end {f} {d} p e = rw e at (p .is)

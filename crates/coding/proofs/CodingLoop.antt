@@ -9,13 +9,12 @@ use native.Mathlib.Omega.{arith}
 use lib.Dec.{ltb}
 use lib.ListN.{length, getD, take, drop}
 use lib.Pow.{pow-mono}
-use lib.Seq.{set-getD}
 use borrow.Author.Tests.{lt-ltb, le-ltb}
 use Rattle.bits.specs.Bit.{bit, isSet}
 use Rattle.bits.specs.Pick.{pick}
 use Rattle.bits.specs.Tab.{tab, over, overAt, blank}
 use Rattle.bits.proofs.Bits.{number-lt}
-use Rattle.bits.proofs.Fill.{Filled, filled-none, filled-more, filled-rest, filled-on, filled-end, FilledAt, filledAt-end}
+use Rattle.bits.proofs.Fill.{Filled, filled-none, filled-on, filled-end, FilledAt, filledAt-end}
 use Rattle.bits.proofs.Searches.{asBit-le}
 use Rattle.bits.proofs.Tabs.{getD-blank, getD-tab, getD-over, tab-cong}
 use Rattle.block.specs.Gray.{valueOfWord, numberOfValue}
@@ -29,10 +28,6 @@ use Rattle.layout.proofs.LayoutLaws.{first-next, first-end, base-below, symbols
 use Rattle.coding.specs.Symbols.{codewordInBlock, symbolAt}
 use Rattle.coding.specs.Stages.{rowOfCode, gridInBlock, columnOf}
 use Rattle.coding.proofs.CodingLaws.{symbol-of-block, column-is}
-
--- a cell that is by the rule already
-pub filled-skip : {A : Type 0} {f : ℕ → A} {d : List A} {n : ℕ} {l : List A} (z : A) → Filled f d n l → n < length d → getD d n z ≡ f n → Filled f d (n + 1) l
-filled-skip {A} {f} {d} {n} {l} z p h e = rw (set-getD l n z) at (filled-more p h (filled-rest z p ∙ e))
 
 -- row i of the grid of n codewords of the nibbles from base on, taken from the rows of the code from line on
 unfoldable pub rowFrom : ℕ → ℕ → ℕ → List ℕ → ℕ → List Bool

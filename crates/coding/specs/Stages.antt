@@ -1,4 +1,5 @@
--- What the steps of the coding hand to each other: no rule of document 01, each by its rules.
+-- What the inner steps of coding hand to each other, said in the definitions of document 01's rules. Nothing here is part of
+-- write_frame's contract.
 -- Assumes nothing.
 use mathlib.Core.Bool.{Bool}
 use mathlib.Core.List.{List}

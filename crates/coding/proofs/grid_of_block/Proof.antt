@@ -7,8 +7,8 @@ use native.Mathlib.Omega.{arith}
 use lib.ListN.{length}
 use Rattle.bits.specs.Tab.{blank}
 use Rattle.bits.proofs.Tabs.{length-blank}
-use Rattle.bits.proofs.Fill.{Filled, filled-none, filled-more, filled-end}
-use Rattle.coding.proofs.CodingLoop.{filled-skip, rowFrom, row-read, row-blank, grid-laid}
+use Rattle.bits.proofs.Fill.{Filled, filled-none, filled-more, filled-end, filled-skip}
+use Rattle.coding.proofs.CodingLoop.{rowFrom, row-read, row-blank, grid-laid}
 use borrow.Author.Needs.{needs}
 use Rattle.coding.proofs.grid_of_block.Statement.{statement}
 use Rattle.coding.proofs.grid_of_block.Tie as tie
