@@ -6,12 +6,50 @@ ghost use lib.ListN.{length};
 ghost use Rattle.bits.specs.Bit.{asBit};
 ghost use Rattle.bits.specs.Tab.{placed};
 ghost use Rattle.line.specs.Line.{decimal, field, hexDigit, hex, shown, lineOf};
+ghost use Rattle.line.specs.Outcome.{outcomeOf};
 ghost use Rattle.line.specs.Put.{Put};
 use bits::wide;
 use lora::Received;
 
+// How a text was answered: accepted with no repairs, accepted with some, refused.
+pub enum Outcome {
+    Clean,
+    Repaired,
+    Declined,
+}
+
+// The line that answers a text, in a lent buffer: its length, and how the text was answered.
+pub struct Answer {
+    pub length: usize,
+    pub outcome: Outcome,
+}
+
+pub fn outcome_of(answer: Received) -> Outcome
+    ensures { λ r. ⌜ r ≡ outcomeOf answer ⌝ }
+{
+    match answer {
+        Received::Payload {
+            length: _,
+            cr: _,
+            checksum: _,
+            symbols: _,
+            repairs,
+        } => {
+            if repairs == 0 {
+                Outcome::Clean
+            } else {
+                Outcome::Repaired
+            }
+        }
+        Received::Refused {
+            number: _,
+            place: _,
+        } => Outcome::Declined,
+    }
+}
+
 // Writes a byte at a place and answers the next place; so do all that follow, with what they write.
-fn put(out: &mut [u8], at: usize, b: u8) -> usize
+pub fn put(out: &mut [u8], at: usize, b: u8) -> usize
     requires { ⌜ at < length (now out) ⌝ }
     ensures { λ r. ⌜ Put at (b ∷ []) (now (out .entry)) (now (out .exit)) r ⌝ }
 {
@@ -26,7 +64,7 @@ fn decimal_digit(n: usize) -> u8
     48 + n as u8
 }
 
-fn put_decimal(out: &mut [u8], at: usize, n: usize) -> usize
+pub fn put_decimal(out: &mut [u8], at: usize, n: usize) -> usize
     requires { ⌜ at + length (decimal n) ≤ length (now out) ⌝ }
     ensures { λ r. ⌜ Put at (decimal n) (now (out .entry)) (now (out .exit)) r ⌝ }
 {
@@ -38,7 +76,7 @@ fn put_decimal(out: &mut [u8], at: usize, n: usize) -> usize
     }
 }
 
-fn put_field(out: &mut [u8], at: usize, n: usize) -> usize
+pub fn put_field(out: &mut [u8], at: usize, n: usize) -> usize
     requires { ⌜ at + 21 ≤ length (now out) ⌝ }
     ensures { λ r. ⌜ Put at (field n) (now (out .entry)) (now (out .exit)) r × (r ≤ at + 21) ⌝ }
 {

@@ -14,13 +14,14 @@ use Rattle.bits.specs.Pick.{pick, both}
 use Rattle.bits.specs.Tab.{blank}
 use Rattle.bits.proofs.Tabs.{length-blank}
 use Rattle.line.specs.Line.{lineOf}
+use Rattle.line.specs.Outcome.{outcomeOf}
 use Rattle.lora.specs.Read.{readOf, bytesAfter, Reading}
 use Rattle.lora.specs.declared.Received.{Received}
 use Rattle.lora.specs.declared.Received.the-variants.{Payload, Refused}
 use Rattle.lora.proofs.AnswerLaws.{accepted, sf-refused}
 use Rattle.text.specs.Answer.{payloadIn, Shown}
-use Rattle.text.specs.Scan.{Holds, start, run, taken, stateOf, isFrame}
-use Rattle.text.specs.Text.{frame, answerTo, answerOf, payloadOf}
+use Rattle.text.specs.Scan.{start, run, isFrame, lineAt, outcomeAt}
+use Rattle.text.specs.Text.{frame, answerTo, answerOf, payloadOf, outcomeTo, outcomeIs}
 use Rattle.text.specs.declared.Scan.{Scan}
 use Rattle.text.proofs.TextLaws.{scanned}
 
@@ -32,10 +33,11 @@ read-shown sf low symbols = one (readOf sf low symbols 255) refl
     one (Payload len cr flag total repairs) e = accepted sf low symbols 255 len cr flag total repairs e .fits
     one (Refused number place) e = tt
 
--- the line made of what was read, with SF narrowed to a byte, is the line that answers the text
-pub frame-line : (sf n : ℕ) (low : Bool) (symbols payload : List ℕ) (r : Received) → n ≡ pick (leb sf 255) sf 255
-    → Reading n low symbols (blank 255 0) payload r → lineOf r (payloadIn r payload) ≡ answerTo (frame sf low symbols)
-frame-line sf n low symbols payload r e c = by (leb sf 255) refl (e)
+-- what was read, with SF narrowed to a byte, is what the text is answered by: its line and its outcome
+pub frame-read : (sf n : ℕ) (low : Bool) (symbols payload : List ℕ) (r : Received) → n ≡ pick (leb sf 255) sf 255
+    → Reading n low symbols (blank 255 0) payload r
+    → (lineOf r (payloadIn r payload) ≡ answerTo (frame sf low symbols)) × (outcomeOf r ≡ outcomeTo (frame sf low symbols))
+frame-read sf n low symbols payload r e c = by (leb sf 255) refl (e)
   where
     whole : (m : ℕ) → n ≡ m → r ≡ readOf m low symbols 255
     whole m f = c .answer ∙ rw (length-blank 255 (zero-cell)) (ap (λ (x : ℕ). readOf x low symbols 255) f)
@@ -47,14 +49,16 @@ frame-line sf n low symbols payload r e c = by (leb sf 255) refl (e)
     same (Payload len cr flag total repairs) m = refl
     same (Refused number place) m = refl
 
-    by : (t : Bool) → leb sf 255 ≡ t → n ≡ pick t sf 255 → lineOf r (payloadIn r payload) ≡ answerTo (frame sf low symbols)
+    by : (t : Bool) → leb sf 255 ≡ t → n ≡ pick t sf 255
+        → (lineOf r (payloadIn r payload) ≡ answerTo (frame sf low symbols)) × (outcomeOf r ≡ outcomeTo (frame sf low symbols))
     by true f g =
         let is : r ≡ readOf sf low symbols 255 = whole sf g in
         let cells : payload ≡ bytesAfter r sf low symbols (blank 255 0) = rw g at (c .cells) in
-        rw (cells, same r sf, is)
+        (rw (cells, same r sf, is), rw is)
     by false f g =
         let is : r ≡ Refused 1 0 = whole 255 g ∙ sf-refused 255 low symbols 255 (omega arith) in
-        rw (is, sf-refused sf low symbols 255 (omega (arith, leb-false sf 255 f)))
+        let none : readOf sf low symbols 255 ≡ Refused 1 0 = sf-refused sf low symbols 255 (omega (arith, leb-false sf 255 f)) in
+        (rw (is, none), rw (is, none))
 
 -- a frame has its first two numbers
 pub frame-two : (c : Scan) (numbers : List ℕ) → isFrame c numbers ≡ true → 2 ≤ c .count
@@ -75,6 +79,11 @@ drop-take (suc n) (suc m) (x ∷ l) =
     rw e (drop-take n m l)
 
 -- whatever pieces a text was taken in, its line is the one that answers the whole text
-pub answers-text : {c : Scan} {numbers : List ℕ} (bytes : List ℕ) → Holds (run start bytes) c numbers → answerTo (taken (stateOf c numbers)) ≡ answerOf bytes
-unfolding answerOf
-answers-text bytes h = rw (h .is, scanned bytes)
+pub answers-text : (bytes : List ℕ) → lineAt (run start bytes) ≡ answerOf bytes
+unfolding answerOf lineAt
+answers-text bytes = rw (scanned bytes)
+
+-- and so is its outcome
+pub outcome-text : (bytes : List ℕ) → outcomeAt (run start bytes) ≡ outcomeIs bytes
+unfolding outcomeIs outcomeAt
+outcome-text bytes = rw (scanned bytes)

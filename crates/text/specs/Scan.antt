@@ -7,7 +7,8 @@ use Prim.Native.Nat.{ℕ, _+_, _-_, _*_, _≤_}
 use lib.Dec.{leb, ltb, eqb}
 use lib.ListN.{length, take, getD}
 use Rattle.bits.specs.Pick.{pick, both}
-use Rattle.text.specs.Text.{isSeparator, isDigit, Text, bad, frameOf}
+use Rattle.line.specs.declared.Outcome.{Outcome}
+use Rattle.text.specs.Text.{isSeparator, isDigit, Text, bad, frameOf, answerTo, outcomeTo}
 use Rattle.text.specs.declared.Scan.{Scan}
 
 -- how far a text was taken: whether it is bad already, the digits and the value of the number that is open, and the
@@ -56,6 +57,13 @@ ended s = pick (s .refused) s (shut s)
 -- the text that was taken, at its end
 unfoldable pub taken : State → Text
 taken s = pick (ended s .refused) bad (frameOf (ended s .numbers))
+
+-- what a text that ends in this state is answered, and how
+unfoldable pub lineAt : State → List ℕ
+lineAt s = answerTo (taken s)
+
+unfoldable pub outcomeAt : State → Outcome
+outcomeAt s = outcomeTo (taken s)
 
 -- the state that the struct and the list of numbers hold
 unfoldable pub stateOf : Scan → List ℕ → State

@@ -9,6 +9,8 @@ use Rattle.bits.specs.Bit.{isSet}
 use Rattle.bits.specs.Pick.{pick, both, either, check}
 use Rattle.bits.specs.Tab.{blank}
 use Rattle.line.specs.Line.{lineOf}
+use Rattle.line.specs.Outcome.{outcomeOf}
+use Rattle.line.specs.declared.Outcome.{Outcome}
 use Rattle.lora.specs.Read.{readOf, bytesAfter}
 use Rattle.lora.specs.declared.Received.{Received}
 use Rattle.lora.specs.declared.Received.the-variants.{Payload, Refused}
@@ -83,3 +85,11 @@ answerTo (frame sf low symbols) = lineOf (readOf sf low symbols 255) (payloadOf 
 
 unfoldable pub answerOf : List ℕ → List ℕ
 answerOf bytes = answerTo (textOf bytes)
+
+-- how a text is answered: accepted with no repairs, with some, or refused
+abbrev pub outcomeTo : Text → Outcome
+outcomeTo bad = outcomeOf (Refused 14 0)
+outcomeTo (frame sf low symbols) = outcomeOf (readOf sf low symbols 255)
+
+unfoldable pub outcomeIs : List ℕ → Outcome
+outcomeIs bytes = outcomeTo (textOf bytes)

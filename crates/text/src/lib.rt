@@ -5,10 +5,13 @@ ghost use Prim.Native.Nat.{_+_, _≤_};
 ghost use lib.Dec.{leb};
 ghost use lib.ListN.{length};
 ghost use Rattle.bits.specs.Pick.{pick};
+ghost use Rattle.bits.specs.Tab.{placed};
 ghost use Rattle.line.specs.Line.{lineOf};
-ghost use Rattle.text.specs.Answer.{Answered, payloadIn, Shown};
-ghost use Rattle.text.specs.Scan.{Sane, Holds, step, grown, shut, run, ended, taken, stateOf, refusing, isFrame};
-ghost use Rattle.text.specs.Text.{frame, answerTo};
+ghost use Rattle.line.specs.Outcome.{Answered, outcomeOf};
+ghost use Rattle.text.specs.Answer.{payloadIn, Shown};
+ghost use Rattle.text.specs.Scan.{Sane, Holds, step, grown, shut, run, ended, stateOf, refusing, isFrame, lineAt, outcomeAt};
+ghost use Rattle.text.specs.Text.{frame, answerTo, outcomeTo};
+use line::Answer;
 use lora::Received;
 
 // How far a text was taken; the numbers before stand in a lent list of 834.
@@ -147,7 +150,7 @@ fn narrow(sf: u16) -> u8
 // The line for what was read into this payload.
 fn line_for(received: Received, payload: [u8; 255], out: &mut [u8]) -> usize
     requires { ⌜ Shown received × (640 ≤ length (now out)) ⌝ }
-    ensures { λ r. ⌜ Answered (lineOf received (payloadIn received payload)) (now (out .entry)) (now (out .exit)) r ⌝ }
+    ensures { λ r. ⌜ (r ≡ length (lineOf received (payloadIn received payload))) × (r ≤ 640) × (now (out .exit) ≡ placed 0 (lineOf received (payloadIn received payload)) (now (out .entry))) ⌝ }
 {
     match received {
         Received::Refused { number, place } => {
@@ -173,25 +176,36 @@ fn line_for(received: Received, payload: [u8; 255], out: &mut [u8]) -> usize
     }
 }
 
+// The line, and how the text was answered.
+fn answer_with(received: Received, payload: [u8; 255], out: &mut [u8]) -> Answer
+    requires { ⌜ Shown received × (640 ≤ length (now out)) ⌝ }
+    ensures { λ r. ⌜ Answered 640 (lineOf received (payloadIn received payload)) (outcomeOf received) (now (out .entry)) (now (out .exit)) r ⌝ }
+{
+    Answer {
+        length: line_for(received, payload, out),
+        outcome: line::outcome_of(received),
+    }
+}
+
 // Reads a frame and writes its line.
-fn answer_frame(sf: u16, low: bool, symbols: &[u16], out: &mut [u8]) -> usize
+fn answer_frame(sf: u16, low: bool, symbols: &[u16], out: &mut [u8]) -> Answer
     requires { ⌜ 640 ≤ length (now out) ⌝ }
-    ensures { λ r. ⌜ Answered (answerTo (frame sf low (now (symbols .entry)))) (now (out .entry)) (now (out .exit)) r ⌝ }
+    ensures { λ r. ⌜ Answered 640 (answerTo (frame sf low (now (symbols .entry)))) (outcomeTo (frame sf low (now (symbols .entry)))) (now (out .entry)) (now (out .exit)) r ⌝ }
 {
     let mut payload = [0u8; 255];
     let received = lora::read(narrow(sf), low, symbols, &mut payload);
-    line_for(received, payload, out)
+    answer_with(received, payload, out)
 }
 
-// The line that answers the text that was taken and ends here: written to the lent buffer, its length answered.
-pub fn answer(scan: Scan, numbers: &mut [u16], out: &mut [u8]) -> usize
+// The line that answers the text that was taken and ends here, written to the lent buffer.
+pub fn answer(scan: Scan, numbers: &mut [u16], out: &mut [u8]) -> Answer
     requires { ⌜ Sane scan (now numbers) × (640 ≤ length (now out)) ⌝ }
-    ensures { λ r. ⌜ Answered (answerTo (taken (stateOf scan (now (numbers .entry))))) (now (out .entry)) (now (out .exit)) r ⌝ }
+    ensures { λ r. ⌜ Answered 640 (lineAt (stateOf scan (now (numbers .entry)))) (outcomeAt (stateOf scan (now (numbers .entry)))) (now (out .entry)) (now (out .exit)) r ⌝ }
 {
     let done = finish(scan, numbers);
     let count = done.count;
     if !is_frame(done, numbers) {
-        return line_for(
+        return answer_with(
             Received::Refused {
                 number: 14,
                 place: 0,

@@ -1,7 +1,7 @@
 use mathlib.Core.Path.{sym, _∙_}
 use Prim.Native.Nat.{_≤_}
 use borrow.Author.Tests.{not-true, not-false}
-use Rattle.text.specs.Scan.{taken}
+use Rattle.text.specs.Scan.{taken, lineAt, outcomeAt}
 use Rattle.text.proofs.AnswerLaws.{drop-take, frame-two}
 use Rattle.text.proofs.ScanLaws.{frame-is}
 use borrow.Author.Needs.{needs}
@@ -14,8 +14,8 @@ finish-requires c κs = search needs
 is-frame-requires : tie.Need-is-frame-requires
 is-frame-requires c κs = search needs
 
-line-for-requires : tie.Need-line-for-requires
-line-for-requires c κs = search needs
+answer-with-requires : tie.Need-answer-with-requires
+answer-with-requires c κs = search needs
 
 same-length : tie.Need-same-length
 same-length c = search needs
@@ -24,9 +24,10 @@ same-length-2 : tie.Need-same-length-2
 same-length-2 c = search needs
 
 returns : tie.Need-returns
+unfolding lineAt outcomeAt
 returns c = let is = c .before .before .before .before .before .before .before .before .before .finish .ensures in
     rw (frame-is _ is, sym (c .before .before .before .before .before .is-frame .ensures) ∙ not-true _ (c .before .before .before .before .if1 .taken))
-    (c .before .before .line-for .ensures)
+    (c .before .before .answer-with .ensures)
 
 slice-read-answer-frame : tie.Need-slice-read-answer-frame
 slice-read-answer-frame c = search needs
@@ -53,6 +54,7 @@ same-length-4 : tie.Need-same-length-4
 same-length-4 c = search needs
 
 returns-2 : tie.Need-returns-2
+unfolding lineAt outcomeAt
 returns-2 c = let is = c .before .before .before .before .before .before .before .before .before .before .before .before .before .finish .ensures in
     rw (frame-is _ is, sym (c .before .before .before .before .before .before .before .before .before .is-frame .ensures) ∙ not-false _ (c .before .before .before .before .before .before .before .before .if1 .left), drop-take)
     (c .before .before .answer-frame .ensures)
@@ -63,7 +65,7 @@ answer-spec =
     (tie.spec
     finish-requires
     is-frame-requires
-    line-for-requires
+    answer-with-requires
     same-length
     same-length-2
     returns

@@ -1,5 +1,5 @@
 use Rattle.bits.specs.Tab.{blank}
-use Rattle.text.proofs.AnswerLaws.{read-shown, frame-line}
+use Rattle.text.proofs.AnswerLaws.{read-shown, frame-read}
 use borrow.Author.Needs.{needs}
 use Rattle.text.proofs.answer_frame.Statement.{statement}
 use Rattle.text.proofs.answer_frame.Tie as tie
@@ -13,8 +13,8 @@ slice-aggregate-read c = search needs
 read-requires : tie.Need-read-requires
 read-requires c κs = search needs
 
-line-for-requires : tie.Need-line-for-requires
-line-for-requires c κs = (rw (c .before .before .read .ensures .answer) (read-shown _ _ _), search needs)
+answer-with-requires : tie.Need-answer-with-requires
+answer-with-requires c κs = (rw (c .before .before .read .ensures .answer) (read-shown _ _ _), search needs)
 
 same-length : tie.Need-same-length
 same-length c = search needs
@@ -22,8 +22,9 @@ same-length c = search needs
 returns : tie.Need-returns
 unfolding blank
 returns c = let r = c .before .before .before .before .before .read .ensures in
-    let e = c .before .before .line-for .ensures in
-    rw (← frame-line (c .before .before .before .before .before .before .before .before .before .before .args .sf) _ _ _ _ _ (c .before .before .before .before .before .before .before .narrow .ensures) r) e
+    let e = c .before .before .answer-with .ensures in
+    let is = frame-read (c .before .before .before .before .before .before .before .before .before .before .args .sf) _ _ _ _ _ (c .before .before .before .before .before .before .before .narrow .ensures) r in
+    rw (← is .0, ← is .1) e
 
 pub answer-frame-spec : {M : Type 1} → statement M
 answer-frame-spec =
@@ -32,6 +33,6 @@ answer-frame-spec =
     narrow-requires
     slice-aggregate-read
     read-requires
-    line-for-requires
+    answer-with-requires
     same-length
     returns)

@@ -40,7 +40,7 @@ same-length c = search needs
 returns : tie.Need-returns
 returns c = let e = c .before .before .write-line .ensures in
     rw (c .before .before .before .before .before .before .received .given .1)
-    (record { long = e .0; short = rw (e .0) (line-length _ _ (search needs)); cells = e .1 })
+    (e .0, rw (e .0) (line-length _ _ (search needs)), e .1)
 
 same-length-2 : tie.Need-same-length-2
 same-length-2 c = search needs
@@ -49,11 +49,7 @@ returns-2 : tie.Need-returns-2
 returns-2 c = let e = c .before .before .write-line2 .ensures in
     let h = fits (c .before .before .before .before .before .before) in
     rw (c .before .before .before .before .before .before .received2 .given .1)
-    (record {
-      long = e .0;
-      short = rw (e .0) (line-length _ _ (rw (length-take-le (c .before .before .before .before .before .before .received2 .given .0 .0) (c .before .before .before .before .before .before .before .before .before .args .t2) (search needs)) h));
-      cells = e .1;
-    })
+    (e .0, rw (e .0) (line-length _ _ (rw (length-take-le (c .before .before .before .before .before .before .received2 .given .0 .0) (c .before .before .before .before .before .before .before .before .before .args .t2) (search needs)) h)), e .1)
 
 pub line-for-spec : {M : Type 1} → statement M
 line-for-spec =
