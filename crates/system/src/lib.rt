@@ -1,0 +1,171 @@
+// The system's calls that the programs share: reads and writes, the wait between two tries, the arguments.
+// What a call reads or writes no contract can say; what is counted and handed on, these contracts do.
+ghost use mathlib.Core.Path.{_≡_};
+ghost use Prim.Native.Nat.{_≤_};
+ghost use lib.Dec.{eqb};
+ghost use lib.ListN.{length};
+ghost use Rattle.system.specs.Calls.{Within};
+use libc::STDERR_FILENO;
+use libc::STDIN_FILENO;
+
+// What a read of standard input gave: so many bytes at the buffer's front, the input's end, or a failure with the system's
+// number for it.
+pub enum Got {
+    Bytes(usize),
+    End,
+    Failed(usize),
+}
+
+// What a write did: how many bytes it got rid of, whether these were all, and the system's number for what went wrong.
+pub struct Sent {
+    pub bytes: usize,
+    pub whole: bool,
+    pub error: usize,
+}
+
+// What the program was asked by its arguments: none, --help alone, or something else.
+pub enum Asked {
+    Work,
+    Help,
+    Other,
+}
+
+// Waits a thousandth of a second, or less where a signal ends the wait.
+pub fn pause() {
+    let asked = libc::types::timespec {
+        tv_sec: 0,
+        tv_nsec: 1000000,
+    };
+    let mut left = libc::types::timespec {
+        tv_sec: 0,
+        tv_nsec: 0,
+    };
+    libc::nanosleep(&asked, &mut left);
+}
+
+// The system's number for what went wrong in the call before.
+fn error() -> usize {
+    let number = os::errno();
+    if number >= 0 { number as usize } else { 0 }
+}
+
+// Whether the call before is to be tried again: it would have waited, or a signal interrupted it.
+fn again(number: usize) -> bool {
+    number == 11 || number == 4
+}
+
+// Reads what is there, and waits until there is something. A proved loop has to end, so it counts its tries down from a
+// number that no run uses up.
+pub fn read_some(buffer: &mut [u8]) -> Got
+    ensures { λ r. ⌜ Within r (now (buffer .exit)) ⌝ }
+{
+    let mut tries = u64::MAX;
+    while tries > 0 {
+        tries -= 1;
+        let got = libc::read(STDIN_FILENO, buffer);
+        if got > 0 {
+            return Got::Bytes(io::count(got, buffer));
+        }
+        if got == 0 {
+            return Got::End;
+        }
+        let number = error();
+        if !again(number) {
+            return Got::Failed(number);
+        }
+        pause();
+    }
+    Got::Failed(0)
+}
+
+// How far a write has come: the bytes it got rid of, whether it is over, and the system's number for what went wrong.
+struct Try {
+    done: usize,
+    over: bool,
+    error: usize,
+}
+
+// One try to write the bytes from done on. It is over where none is left, or where the system refuses them; where it only
+// would have waited, this waits.
+fn write_from(fd: i32, bytes: &[u8], done: usize) -> Try
+    requires { ⌜ done ≤ length (now bytes) ⌝ }
+    ensures { λ r. ⌜ r .done ≤ length (now (bytes .entry)) ⌝ }
+{
+    if done == bytes.len() {
+        return Try {
+            done,
+            over: true,
+            error: 0,
+        };
+    }
+    let more = io::count(libc::write(fd, &bytes[done..]), &bytes[done..]);
+    if more > 0 {
+        return Try {
+            done: done + more,
+            over: false,
+            error: 0,
+        };
+    }
+    let number = error();
+    if again(number) {
+        pause();
+        return Try {
+            done,
+            over: false,
+            error: 0,
+        };
+    }
+    Try {
+        done,
+        over: true,
+        error: number,
+    }
+}
+
+// Writes all the bytes, waiting where the reader is slow, or stops at the first write that fails.
+pub fn write_all(fd: i32, bytes: &[u8]) -> Sent
+    ensures { λ r. ⌜ (r .bytes ≤ length (now (bytes .entry))) × (r .whole ≡ eqb (r .bytes) (length (now (bytes .entry)))) ⌝ }
+{
+    let mut done = 0;
+    let mut error = 0;
+    let mut tries = u64::MAX;
+    while tries > 0 {
+        tries -= 1;
+        let next = write_from(fd, bytes, done);
+        done = next.done;
+        error = next.error;
+        if next.over {
+            tries = 0;
+        }
+    }
+    Sent {
+        bytes: done,
+        whole: done == bytes.len(),
+        error,
+    }
+}
+
+// Words for whoever started the program.
+pub fn say(words: &[u8]) {
+    write_all(STDERR_FILENO, words);
+}
+
+fn is_help(word: &[u8]) -> bool {
+    if word.len() != 6 {
+        return false;
+    }
+    word[0] == b'-' && word[1] == b'-' && word[2] == b'h' && word[3] == b'e' && word[4] == b'l' && word[5] == b'p'
+}
+
+pub fn arguments() -> Asked {
+    let count = os::arg_count();
+    if count < 2 {
+        return Asked::Work;
+    }
+    let mut word = [0u8; 8];
+    let n = os::arg(1, &mut word);
+    if count == 2 && is_help(&word[..n]) {
+        return Asked::Help;
+    }
+    Asked::Other
+}
