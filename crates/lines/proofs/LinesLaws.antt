@@ -1,0 +1,106 @@
+-- In whatever chunks an input comes, its answers are those of the whole input, and so are its counts.
+-- Assumes nothing.
+use mathlib.Core.Path.{_≡_, refl, sym, ap, _∙_}
+use mathlib.Core.Bool.{Bool, true, false}
+use mathlib.Core.List.{List, [], _∷_, _++_, append-assoc, append-nil}
+use Prim.Native.Nat.{ℕ}
+use lib.Dec.{eqb}
+use Rattle.bits.specs.Pick.{pick}
+use Rattle.line.specs.declared.Outcome.{Outcome}
+use Rattle.text.specs.Text as text
+use Rattle.text.specs.Scan as text-scan
+use Rattle.wish.specs.Scan as wish-scan
+use Rattle.text.proofs.AnswerLaws.{answers-text, outcome-text}
+use Rattle.wish.proofs.ScanLaws.{answers-wish, outcome-wish}
+use Rattle.lines.specs.Counts.{none, counted}
+use Rattle.lines.specs.Lines.{Job, frames, wishes, piecesFrom, pieces, lineTo, outcomeTo, linesTo, countsFrom, outputOf, countsOf}
+use Rattle.lines.specs.Stream.{At, startOf, jobOf, runAt, lineAt, outcomeAt, Point, begin, next, on, run, said, ended, lastSaid}
+use Rattle.lines.specs.declared.Counts.{Counts}
+use Rattle.lines.proofs.StreamLaws.{runAt-none, runAt-append, job-runAt}
+
+-- the line and the outcome of a piece whose bytes were taken
+line-is : (job : Job) (bytes : List ℕ) → lineAt (runAt (startOf job) bytes) ≡ lineTo job bytes
+line-is frames bytes = answers-text bytes
+line-is wishes bytes = answers-wish bytes
+
+outcome-is : (job : Job) (bytes : List ℕ) → outcomeAt (runAt (startOf job) bytes) ≡ outcomeTo job bytes
+outcome-is frames bytes = outcome-text bytes
+outcome-is wishes bytes = outcome-wish bytes
+
+job-is : (job : Job) (bytes : List ℕ) → jobOf (runAt (startOf job) bytes) ≡ job
+job-is frames bytes = refl
+job-is wishes bytes = refl
+
+-- whether a piece has a byte
+unfoldable some : List ℕ → Bool
+some [] = false
+some (b ∷ bs) = true
+
+some-more : (l : List ℕ) (b : ℕ) → some (l ++ (b ∷ [])) ≡ true
+unfolding some
+some-more [] b = refl
+some-more (a ∷ l) b = refl
+
+-- the point at which the bytes of the open piece are these
+unfoldable point : Job → List ℕ → Counts → Point
+point job bytes counts = record { piece = runAt (startOf job) bytes; begun = some bytes; counts = counts }
+
+point-next : (job : Job) (bytes : List ℕ) (c : Counts) → next (point job bytes c) ≡ point job [] (counted c (outcomeTo job bytes))
+unfolding next point some
+point-next job bytes c = rw (job-is job bytes, outcome-is job bytes, runAt-none (startOf job))
+
+point-on : (job : Job) (bytes : List ℕ) (c : Counts) (b : ℕ) → on (point job bytes c) b ≡ point job (bytes ++ (b ∷ [])) c
+unfolding on point
+point-on job bytes c b = rw (runAt-append (startOf job) bytes (b ∷ []), some-more bytes b)
+
+-- the answers from such a point on, with the last piece's
+whole-lines : (job : Job) (bs bytes : List ℕ) (c : Counts)
+    → said (point job bytes c) bs ++ lastSaid (run (point job bytes c) bs) ≡ linesTo job (piecesFrom bytes bs)
+unfolding said run piecesFrom linesTo
+whole-lines job [] bytes c = last bytes
+  where
+    last : (l : List ℕ) → lastSaid (point job l c) ≡ linesTo job (text.closed l)
+    unfolding lastSaid point some text.closed
+    last [] = refl
+    last (b ∷ l) = rw (line-is job (b ∷ l), append-nil (lineTo job (b ∷ l)))
+whole-lines job (b ∷ bs) bytes c = by (eqb b 10) (λ d. whole-lines job bs [] d) (whole-lines job bs (bytes ++ (b ∷ [])) c)
+  where
+    by : (t : Bool) → ((d : Counts) → said (point job [] d) bs ++ lastSaid (run (point job [] d) bs) ≡ linesTo job (piecesFrom [] bs))
+        → said (point job (bytes ++ (b ∷ [])) c) bs ++ lastSaid (run (point job (bytes ++ (b ∷ [])) c) bs) ≡ linesTo job (piecesFrom (bytes ++ (b ∷ [])) bs)
+        → (pick t (lineAt (point job bytes c .piece)) [] ++ said (pick t (next (point job bytes c)) (on (point job bytes c) b)) bs) ++ lastSaid (run (pick t (next (point job bytes c)) (on (point job bytes c) b)) bs)
+        ≡ linesTo job (pick t (bytes ∷ piecesFrom [] bs) (piecesFrom (bytes ++ (b ∷ [])) bs))
+    unfolding point
+    by true after more =
+        rw (append-assoc (lineAt (runAt (startOf job) bytes)) (said (next (point job bytes c)) bs) (lastSaid (run (next (point job bytes c)) bs)), point-next job bytes c, after (counted c (outcomeTo job bytes)), line-is job bytes)
+    by false after more = rw (point-on job bytes c b) more
+
+whole-counts : (job : Job) (bs bytes : List ℕ) (c : Counts)
+    → ended (run (point job bytes c) bs) .counts ≡ countsFrom c job (piecesFrom bytes bs)
+unfolding run piecesFrom countsFrom
+whole-counts job [] bytes c = last bytes
+  where
+    last : (l : List ℕ) → ended (point job l c) .counts ≡ countsFrom c job (text.closed l)
+    unfolding ended next point some text.closed
+    last [] = refl
+    last (b ∷ l) = rw (outcome-is job (b ∷ l))
+whole-counts job (b ∷ bs) bytes c = by (eqb b 10) (λ d. whole-counts job bs [] d) (whole-counts job bs (bytes ++ (b ∷ [])) c)
+  where
+    by : (t : Bool) → ((d : Counts) → ended (run (point job [] d) bs) .counts ≡ countsFrom d job (piecesFrom [] bs))
+        → ended (run (point job (bytes ++ (b ∷ [])) c) bs) .counts ≡ countsFrom c job (piecesFrom (bytes ++ (b ∷ [])) bs)
+        → ended (run (pick t (next (point job bytes c)) (on (point job bytes c) b)) bs) .counts ≡ countsFrom c job (pick t (bytes ∷ piecesFrom [] bs) (piecesFrom (bytes ++ (b ∷ [])) bs))
+    by true after more = rw (point-next job bytes c) (after (counted c (outcomeTo job bytes)))
+    by false after more = rw (point-on job bytes c b) more
+
+begins : (job : Job) → begin job ≡ point job [] none
+unfolding begin point some
+begins job = rw (runAt-none (startOf job))
+
+-- what is said of an input from its beginning on, and at its end, is its output
+pub output-whole : (job : Job) (input : List ℕ) → said (begin job) input ++ lastSaid (run (begin job) input) ≡ outputOf job input
+unfolding outputOf pieces
+output-whole job input = rw (begins job) (whole-lines job input [] none)
+
+-- and the counts at its end are its counts
+pub counts-whole : (job : Job) (input : List ℕ) → ended (run (begin job) input) .counts ≡ countsOf job input
+unfolding countsOf pieces
+counts-whole job input = rw (begins job) (whole-counts job input [] none)

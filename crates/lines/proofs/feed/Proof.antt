@@ -1,0 +1,44 @@
+-- `feed` hands the bytes to the text of the piece's kind.
+-- Assumes nothing.
+use mathlib.Core.Path.{ap}
+use Rattle.lines.specs.Stream.{frameAt, wishAt}
+use borrow.Author.Needs.{needs}
+use Rattle.lines.proofs.feed.Statement.{statement}
+use Rattle.lines.proofs.feed.Tie as tie
+
+enum-known-piece : tie.Need-enum-known-piece
+enum-known-piece c = search needs
+
+feed-requires : tie.Need-feed-requires
+feed-requires c κs = rw (c .before .before .piece .given .1) at (c .before .before .before .before .before .before .pre)
+
+enum-known-piece-2 : tie.Need-enum-known-piece-2
+enum-known-piece-2 c = search needs
+
+feed-requires-2 : tie.Need-feed-requires-2
+feed-requires-2 c κs = rw (c .before .before .piece2 .given .1) at (c .before .before .before .before .before .before .pre)
+
+same-length : tie.Need-same-length
+same-length c = search needs
+
+returns : tie.Need-returns
+returns c = let e = c .before .before .feed .ensures in rw (c .before .before .before .before .before .piece .given .1) (record { sane = e .sane; is = ap frameAt (e .is) })
+
+same-length-2 : tie.Need-same-length-2
+same-length-2 c = search needs
+
+returns-2 : tie.Need-returns-2
+returns-2 c = let e = c .before .before .feed2 .ensures in rw (c .before .before .before .before .before .piece2 .given .1) (record { sane = e .sane; is = ap wishAt (e .is) })
+
+pub feed-spec : {M : Type 1} → statement M
+feed-spec =
+    tie.close
+    (tie.spec
+    enum-known-piece
+    feed-requires
+    enum-known-piece-2
+    feed-requires-2
+    same-length
+    returns
+    same-length-2
+    returns-2)

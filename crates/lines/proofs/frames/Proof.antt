@@ -1,0 +1,19 @@
+-- `frames` begins a run that reads.
+-- Assumes nothing.
+use Rattle.lines.specs.Lines.{frames}
+use Rattle.lines.proofs.StreamLaws.{stands-begin, frame-start}
+use borrow.Author.Needs.{needs}
+use Rattle.lines.proofs.frames.Statement.{statement}
+use Rattle.lines.proofs.frames.Tie as tie
+
+begin-requires : tie.Need-begin-requires
+begin-requires c κs = search needs
+
+nothing-requires : tie.Need-nothing-requires
+nothing-requires c κs = search needs
+
+returns : tie.Need-returns
+returns c = λ numbers l. let e = c .before .begin .ensures in stands-begin frames (frame-start (c .before .begin .result) numbers (e .0) (e .1) (e .2) (e .3) l) (c .nothing .ensures)
+
+pub frames-spec : {M : Type 1} → statement M
+frames-spec = tie.close (tie.spec begin-requires nothing-requires returns)

@@ -1,0 +1,48 @@
+-- What the answers to a whole input are: it is cut at each byte 10, and each piece is a text, answered by a line.
+-- Assumes nothing.
+use mathlib.Core.List.{List, [], _∷_, _++_}
+use Prim.Native.Nat.{ℕ}
+use lib.Dec.{eqb}
+use Rattle.bits.specs.Pick.{pick}
+use Rattle.line.specs.declared.Outcome.{Outcome}
+use Rattle.text.specs.Text as text
+use Rattle.wish.specs.Wish as wish
+use Rattle.lines.specs.Counts.{none, counted}
+use Rattle.lines.specs.declared.Counts.{Counts}
+
+-- the texts that an input holds: frames to be read, or wishes for frames to be made
+pub data Job : Type 0 where
+  frames : Job
+  wishes : Job
+
+-- the pieces of an input; an empty last piece is none
+unfoldable pub piecesFrom : List ℕ → List ℕ → List (List ℕ)
+piecesFrom piece [] = text.closed piece
+piecesFrom piece (b ∷ bs) = pick (eqb b 10) (piece ∷ piecesFrom [] bs) (piecesFrom (piece ++ (b ∷ [])) bs)
+
+unfoldable pub pieces : List ℕ → List (List ℕ)
+pieces input = piecesFrom [] input
+
+-- the line that answers a text, and how it is answered
+abbrev pub lineTo : Job → List ℕ → List ℕ
+lineTo frames bytes = text.answerOf bytes
+lineTo wishes bytes = wish.answerOf bytes
+
+abbrev pub outcomeTo : Job → List ℕ → Outcome
+outcomeTo frames bytes = text.outcomeIs bytes
+outcomeTo wishes bytes = wish.outcomeIs bytes
+
+unfoldable pub linesTo : Job → List (List ℕ) → List ℕ
+linesTo job [] = []
+linesTo job (piece ∷ rest) = lineTo job piece ++ linesTo job rest
+
+unfoldable pub countsFrom : Counts → Job → List (List ℕ) → Counts
+countsFrom c job [] = c
+countsFrom c job (piece ∷ rest) = countsFrom (counted c (outcomeTo job piece)) job rest
+
+-- the output for an input, and the counts of its closing line
+unfoldable pub outputOf : Job → List ℕ → List ℕ
+outputOf job input = linesTo job (pieces input)
+
+unfoldable pub countsOf : Job → List ℕ → Counts
+countsOf job input = countsFrom none job (pieces input)

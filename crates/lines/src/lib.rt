@@ -1,0 +1,289 @@
+// The answers to an input, handed out while it comes in chunks of any size.
+ghost use mathlib.Core.Path.{_≡_};
+ghost use mathlib.Core.List.{List, [], _∷_, _++_};
+ghost use Prim.Native.Nat.{ℕ, _+_, _≤_, _<_};
+ghost use lib.Dec.{eqb};
+ghost use lib.ListN.{length};
+ghost use Rattle.bits.specs.Bit.{asBit};
+ghost use Rattle.line.specs.Line.{field};
+ghost use Rattle.line.specs.Outcome.{Answered};
+ghost use Rattle.line.specs.Put.{Put};
+ghost use Rattle.lines.specs.Counts.{none, more, counted, closingLine};
+ghost use Rattle.lines.specs.Lines.{frames as frameJob, wishes as wishJob};
+ghost use Rattle.lines.specs.Stream.{begin, next, ended, lastSaid, startOf, jobOf, runAt, lineAt, outcomeAt, atOf, pointOf, part, SanePiece, PieceHolds, Stands, Ends, TookPart, Went, lineEnds};
+use line::Answer;
+use line::Outcome;
+
+// What was taken of the piece that is open: of a frame to be read, or of a wish for one.
+pub enum Piece {
+    Frame(text::Scan),
+    Wish(wish::Scan),
+}
+
+// How many texts were answered: all, accepted with no repairs, accepted with some, refused.
+pub struct Counts {
+    pub texts: usize,
+    pub clean: usize,
+    pub repaired: usize,
+    pub refused: usize,
+}
+
+// Where a run stands: the open piece, whether it has a byte yet, and the counts of the pieces before it. The numbers of the
+// open piece stand in a lent list of 834.
+pub struct Day {
+    pub piece: Piece,
+    pub begun: bool,
+    pub counts: Counts,
+}
+
+// A day, the place in the chunk at which it goes on, and how many bytes of answers wait in the lent buffer.
+pub struct Step {
+    pub day: Day,
+    pub at: usize,
+    pub used: usize,
+}
+
+fn nothing() -> Counts
+    ensures { λ r. ⌜ r ≡ none ⌝ }
+{
+    Counts {
+        texts: 0,
+        clean: 0,
+        repaired: 0,
+        refused: 0,
+    }
+}
+
+// A run that reads frames.
+pub fn frames() -> Day
+    ensures { λ r. ⌜ ((numbers : List ℕ) → length numbers ≡ 834 → Stands (begin frameJob) r numbers) ⌝ }
+{
+    Day {
+        piece: Piece::Frame(text::begin()),
+        begun: false,
+        counts: nothing(),
+    }
+}
+
+// A run that makes frames.
+pub fn wishes() -> Day
+    ensures { λ r. ⌜ ((numbers : List ℕ) → length numbers ≡ 834 → Stands (begin wishJob) r numbers) ⌝ }
+{
+    Day {
+        piece: Piece::Wish(wish::begin()),
+        begun: false,
+        counts: nothing(),
+    }
+}
+
+// The next piece, of the same kind, with nothing taken.
+fn anew(piece: Piece) -> Piece
+    ensures { λ r. ⌜ ((old numbers : List ℕ) → length numbers ≡ 834 → PieceHolds (startOf (jobOf (atOf piece old))) r numbers) ⌝ }
+{
+    match piece {
+        Piece::Frame(_) => Piece::Frame(text::begin()),
+        Piece::Wish(_) => Piece::Wish(wish::begin()),
+    }
+}
+
+// Bytes of the open piece.
+fn feed(piece: Piece, bytes: &[u8], numbers: &mut [u16]) -> Piece
+    requires { ⌜ SanePiece piece (now numbers) ⌝ }
+    ensures { λ r. ⌜ PieceHolds (runAt (atOf piece (now (numbers .entry))) (now (bytes .entry))) r (now (numbers .exit)) ⌝ }
+{
+    match piece {
+        Piece::Frame(scan) => Piece::Frame(text::feed(scan, bytes, numbers)),
+        Piece::Wish(scan) => Piece::Wish(wish::feed(scan, bytes, numbers)),
+    }
+}
+
+// The line that answers the open piece, at the buffer's front.
+fn answer(piece: Piece, numbers: &mut [u16], out: &mut [u8]) -> Answer
+    requires { ⌜ SanePiece piece (now numbers) × (17600 ≤ length (now out)) ⌝ }
+    ensures { λ r. ⌜ Answered 17600 (lineAt (atOf piece (now (numbers .entry)))) (outcomeAt (atOf piece (now (numbers .entry)))) (now (out .entry)) (now (out .exit)) r ⌝ }
+{
+    match piece {
+        Piece::Frame(scan) => text::answer(scan, numbers, out),
+        Piece::Wish(scan) => wish::answer(scan, numbers, out),
+    }
+}
+
+// The same behind the bytes that wait.
+fn answer_behind(piece: Piece, numbers: &mut [u16], out: &mut [u8], used: usize) -> Answer
+    requires { ⌜ SanePiece piece (now numbers) × (used + 17600 ≤ length (now out)) ⌝ }
+    ensures { λ r. ⌜ Put used (lineAt (atOf piece (now (numbers .entry)))) (now (out .entry)) (now (out .exit)) (used + r .length) × (r .length ≤ 17600) × (r .outcome ≡ outcomeAt (atOf piece (now (numbers .entry)))) ⌝ }
+{
+    answer(piece, numbers, &mut out[used..])
+}
+
+// One more, up to the largest number there is.
+fn one_more(n: usize) -> usize
+    ensures { λ r. ⌜ r ≡ more n ⌝ }
+{
+    if n < usize::MAX { n + 1 } else { n }
+}
+
+// A text was answered.
+fn count_in(c: Counts, outcome: Outcome) -> Counts
+    ensures { λ r. ⌜ r ≡ counted c outcome ⌝ }
+{
+    match outcome {
+        Outcome::Clean => Counts {
+            texts: one_more(c.texts),
+            clean: one_more(c.clean),
+            repaired: c.repaired,
+            refused: c.refused,
+        },
+        Outcome::Repaired => Counts {
+            texts: one_more(c.texts),
+            clean: c.clean,
+            repaired: one_more(c.repaired),
+            refused: c.refused,
+        },
+        Outcome::Declined => Counts {
+            texts: one_more(c.texts),
+            clean: c.clean,
+            repaired: c.repaired,
+            refused: one_more(c.refused),
+        },
+    }
+}
+
+// A day whose last piece was answered, and how many bytes of answers wait now.
+pub struct Closed {
+    pub day: Day,
+    pub used: usize,
+}
+
+// Answers the open piece behind the bytes that wait, and opens the next.
+fn close_piece(day: Day, numbers: &mut [u16], out: &mut [u8], used: usize) -> Closed
+    requires { ⌜ SanePiece (day .piece) (now numbers) × (used + 17600 ≤ length (now out)) ⌝ }
+    ensures { λ r. ⌜ Stands (next (pointOf day (now (numbers .entry)))) (r .day) (now (numbers .exit)) × Put used (lineAt (atOf (day .piece) (now (numbers .entry)))) (now (out .entry)) (now (out .exit)) (r .used) ⌝ }
+{
+    let piece = day.piece;
+    let counts = day.counts;
+    let answer = answer_behind(piece, numbers, out, used);
+    let outcome = answer.outcome;
+    Closed {
+        day: Day {
+            piece: anew(piece),
+            begun: false,
+            counts: count_in(counts, outcome),
+        },
+        used: used + answer.length,
+    }
+}
+
+// The place of the next line end, or the chunk's length.
+fn line_end(chunk: &[u8], from: usize) -> usize
+    requires { ⌜ from ≤ length (now chunk) ⌝ }
+    ensures { λ r. ⌜ Ends (now (chunk .entry)) from r ⌝ }
+{
+    let mut i = from;
+    while i < chunk.len() {
+        if chunk[i] == 10 {
+            return i;
+        }
+        i += 1;
+    }
+    i
+}
+
+// Takes the bytes from at to end into the open piece.
+fn take_part(day: Day, chunk: &[u8], at: usize, end: usize, numbers: &mut [u16]) -> Day
+    requires { ⌜ SanePiece (day .piece) (now numbers) × Ends (now chunk) at end ⌝ }
+    ensures { λ r. ⌜ SanePiece (r .piece) (now (numbers .exit)) × TookPart (pointOf day (now (numbers .entry))) (part (now (chunk .entry)) at end) (pointOf r (now (numbers .exit))) ⌝ }
+{
+    let piece = day.piece;
+    let counts = day.counts;
+    Day {
+        piece: feed(piece, &chunk[at..end], numbers),
+        begun: true,
+        counts,
+    }
+}
+
+// Takes the chunk from at on up to a line end, and answers the piece that ends there, or all that is left.
+fn take_piece(day: Day, chunk: &[u8], at: usize, numbers: &mut [u16], out: &mut [u8], used: usize) -> Step
+    requires { ⌜ SanePiece (day .piece) (now numbers) × (at < length (now chunk)) × (used + 17600 ≤ length (now out)) ⌝ }
+    ensures { λ r. ⌜ Went (pointOf day (now (numbers .entry))) (now (chunk .entry)) at (r .at) used (r .used) (r .day) (now (numbers .exit)) (now (out .entry)) (now (out .exit)) × (at < r .at) ⌝ }
+{
+    let end = line_end(chunk, at);
+    let taken = take_part(day, chunk, at, end, numbers);
+    if end < chunk.len() {
+        let next = end + 1;
+        let closed = close_piece(taken, numbers, out, used);
+        let day = closed.day;
+        return Step {
+            day,
+            at: next,
+            used: closed.used,
+        };
+    }
+    Step {
+        day: taken,
+        at: end,
+        used,
+    }
+}
+
+// Takes the chunk from at on, and puts the answer of each piece that ends in it at the buffer's front, one behind the other,
+// until the chunk is taken or another line might not fit.
+pub fn take(day: Day, chunk: &[u8], at: usize, numbers: &mut [u16], out: &mut [u8]) -> Step
+    requires { ⌜ SanePiece (day .piece) (now numbers) × (at < length (now chunk)) × (17600 ≤ length (now out)) ⌝ }
+    ensures { λ r. ⌜ Went (pointOf day (now (numbers .entry))) (now (chunk .entry)) at (r .at) 0 (r .used) (r .day) (now (numbers .exit)) (now (out .entry)) (now (out .exit)) × (at < r .at) ⌝ }
+{
+    let last = out.len() - 17600;
+    let mut step = take_piece(day, chunk, at, numbers, out, 0);
+    while step.at < chunk.len() {
+        if step.used > last {
+            return step;
+        }
+        step = take_piece(step.day, chunk, step.at, numbers, out, step.used);
+    }
+    step
+}
+
+// The end of the input: a last piece that is not empty is answered too, at the buffer's front.
+pub fn finish(day: Day, numbers: &mut [u16], out: &mut [u8]) -> Closed
+    requires { ⌜ SanePiece (day .piece) (now numbers) × (17600 ≤ length (now out)) ⌝ }
+    ensures { λ r. ⌜ Stands (ended (pointOf day (now (numbers .entry)))) (r .day) (now (numbers .exit)) × Put 0 (lastSaid (pointOf day (now (numbers .entry)))) (now (out .entry)) (now (out .exit)) (r .used) ⌝ }
+{
+    if day.begun {
+        return close_piece(day, numbers, out, 0);
+    }
+    Closed { day, used: 0 }
+}
+
+// The line that ends a good run, at the buffer's front.
+pub fn closing(c: Counts, out: &mut [u8]) -> usize
+    requires { ⌜ 100 ≤ length (now out) ⌝ }
+    ensures { λ r. ⌜ Put 0 (closingLine c) (now (out .entry)) (now (out .exit)) r ⌝ }
+{
+    let after_e = line::put(out, 0, b'e');
+    let after_n = line::put(out, after_e, b'n');
+    let after_end = line::put(out, after_n, b'd');
+    let after_texts = line::put_field(out, after_end, c.texts);
+    let after_clean = line::put_field(out, after_texts, c.clean);
+    let after_repaired = line::put_field(out, after_clean, c.repaired);
+    let after_refused = line::put_field(out, after_repaired, c.refused);
+    line::put(out, after_refused, 10)
+}
+
+fn ends_line(b: u8) -> usize
+    ensures { λ r. ⌜ r ≡ asBit (eqb b 10) ⌝ }
+{
+    if b == 10 { 1 } else { 0 }
+}
+
+// How many lines end in the first n bytes: so many whole answers were written where a write stopped there.
+pub fn line_ends(out: &[u8], n: usize) -> usize
+    requires { ⌜ n ≤ length (now out) ⌝ }
+    ensures { λ r. ⌜ (r ≡ lineEnds (now (out .entry)) n) × (r ≤ n) ⌝ }
+{
+    let mut ends = 0;
+    for i in 0..n {
+        ends += ends_line(out[i]);
+    }
+    ends
+}
