@@ -53,36 +53,40 @@ point-on : (job : Job) (bytes : List ℕ) (c : Counts) (b : ℕ) → on (point j
 unfolding on point
 point-on job bytes c b = rw (runAt-append (startOf job) bytes (b ∷ []), some-more bytes b)
 
+point-line : (job : Job) (bytes : List ℕ) (c : Counts) → lineAt (point job bytes c .piece) ≡ lineTo job bytes
+unfolding point
+point-line job bytes c = line-is job bytes
+
+-- the last piece: none if it is empty
+last-line : (job : Job) (bytes : List ℕ) (c : Counts) → lastSaid (point job bytes c) ≡ linesTo job (text.closed bytes)
+unfolding lastSaid point some text.closed linesTo
+last-line job [] c = refl
+last-line job (b ∷ l) c = rw (line-is job (b ∷ l), append-nil (lineTo job (b ∷ l)))
+
+last-counts : (job : Job) (bytes : List ℕ) (c : Counts) → ended (point job bytes c) .counts ≡ countsFrom c job (text.closed bytes)
+unfolding ended next point some text.closed countsFrom
+last-counts job [] c = refl
+last-counts job (b ∷ l) c = rw (outcome-is job (b ∷ l))
+
 -- the answers from such a point on, with the last piece's
 whole-lines : (job : Job) (bs bytes : List ℕ) (c : Counts)
     → said (point job bytes c) bs ++ lastSaid (run (point job bytes c) bs) ≡ linesTo job (piecesFrom bytes bs)
 unfolding said run piecesFrom linesTo
-whole-lines job [] bytes c = last bytes
-  where
-    last : (l : List ℕ) → lastSaid (point job l c) ≡ linesTo job (text.closed l)
-    unfolding lastSaid point some text.closed
-    last [] = refl
-    last (b ∷ l) = rw (line-is job (b ∷ l), append-nil (lineTo job (b ∷ l)))
+whole-lines job [] bytes c = last-line job bytes c
 whole-lines job (b ∷ bs) bytes c = by (eqb b 10) (λ d. whole-lines job bs [] d) (whole-lines job bs (bytes ++ (b ∷ [])) c)
   where
     by : (t : Bool) → ((d : Counts) → said (point job [] d) bs ++ lastSaid (run (point job [] d) bs) ≡ linesTo job (piecesFrom [] bs))
         → said (point job (bytes ++ (b ∷ [])) c) bs ++ lastSaid (run (point job (bytes ++ (b ∷ [])) c) bs) ≡ linesTo job (piecesFrom (bytes ++ (b ∷ [])) bs)
         → (pick t (lineAt (point job bytes c .piece)) [] ++ said (pick t (next (point job bytes c)) (on (point job bytes c) b)) bs) ++ lastSaid (run (pick t (next (point job bytes c)) (on (point job bytes c) b)) bs)
         ≡ linesTo job (pick t (bytes ∷ piecesFrom [] bs) (piecesFrom (bytes ++ (b ∷ [])) bs))
-    unfolding point
     by true after more =
-        rw (append-assoc (lineAt (runAt (startOf job) bytes)) (said (next (point job bytes c)) bs) (lastSaid (run (next (point job bytes c)) bs)), point-next job bytes c, after (counted c (outcomeTo job bytes)), line-is job bytes)
+        rw (append-assoc (lineAt (point job bytes c .piece)) (said (next (point job bytes c)) bs) (lastSaid (run (next (point job bytes c)) bs)), point-line job bytes c, point-next job bytes c, after (counted c (outcomeTo job bytes)))
     by false after more = rw (point-on job bytes c b) more
 
 whole-counts : (job : Job) (bs bytes : List ℕ) (c : Counts)
     → ended (run (point job bytes c) bs) .counts ≡ countsFrom c job (piecesFrom bytes bs)
 unfolding run piecesFrom countsFrom
-whole-counts job [] bytes c = last bytes
-  where
-    last : (l : List ℕ) → ended (point job l c) .counts ≡ countsFrom c job (text.closed l)
-    unfolding ended next point some text.closed
-    last [] = refl
-    last (b ∷ l) = rw (outcome-is job (b ∷ l))
+whole-counts job [] bytes c = last-counts job bytes c
 whole-counts job (b ∷ bs) bytes c = by (eqb b 10) (λ d. whole-counts job bs [] d) (whole-counts job bs (bytes ++ (b ∷ [])) c)
   where
     by : (t : Bool) → ((d : Counts) → ended (run (point job [] d) bs) .counts ≡ countsFrom d job (piecesFrom [] bs))

@@ -150,6 +150,42 @@ pub fn say(words: &[u8]) {
     write_all(STDERR_FILENO, words);
 }
 
+// A number in decimal.
+fn say_number(n: usize) {
+    let mut digits = [0u8; 20];
+    let k = io::decimal(n as u64, &mut digits);
+    say(&digits[..k]);
+}
+
+// The line for a write that failed: the whole answers before it were written.
+pub fn say_unwritten(error: usize, answers: usize) {
+    say(b"broken off: writing failed (error ");
+    say_number(error);
+    say(b"), ");
+    say_number(answers);
+    say(b" whole answers written\n");
+}
+
+// The line for a read that failed: the line that it cut short has no answer.
+pub fn say_unread(error: usize, answers: usize) {
+    say(b"broken off: reading failed in line ");
+    say_number(next(answers));
+    say(b" (error ");
+    say_number(error);
+    say(b"), ");
+    say_number(answers);
+    say(b" whole answers written\n");
+}
+
+// The line behind so many.
+fn next(answers: usize) -> usize {
+    if answers < usize::MAX {
+        answers + 1
+    } else {
+        answers
+    }
+}
+
 fn is_help(word: &[u8]) -> bool {
     if word.len() != 6 {
         return false;

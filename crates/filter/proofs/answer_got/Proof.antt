@@ -1,0 +1,55 @@
+-- `answer_got` takes exactly the bytes that the read left.
+-- Assumes nothing.
+use mathlib.Core.Path.{refl, sym}
+use lib.Seq.{length-take-le}
+use Rattle.lines.proofs.StreamLaws.{stands-here}
+use borrow.Author.Needs.{needs}
+use Rattle.filter.proofs.answer_got.Statement.{statement}
+use Rattle.filter.proofs.answer_got.Tie as tie
+
+enum-known-got : tie.Need-enum-known-got
+enum-known-got c = search needs
+
+slice-aggregate-answer-chunk : tie.Need-slice-aggregate-answer-chunk
+slice-aggregate-answer-chunk c = sym (length-take-le _ _ (rw (c .before .before .got .given .1) at (c .before .before .before .before .before .before .before .pre .0)))
+
+answer-chunk-requires : tie.Need-answer-chunk-requires
+answer-chunk-requires c κs = search needs
+
+enum-told : tie.Need-enum-told
+enum-told c = search needs
+
+enum-known-got-2 : tie.Need-enum-known-got-2
+enum-known-got-2 c = search needs
+
+same-length : tie.Need-same-length
+same-length c = search needs
+
+same-length-2 : tie.Need-same-length-2
+same-length-2 c = search needs
+
+returns : tie.Need-returns
+returns c = rw (c .before .before .before .before .before .before .before .before .before .got .given .1) (record { is = c .before .before .before .before .answer-chunk .ensures })
+
+returns-2 : tie.Need-returns-2
+returns-2 c =
+    let a = c .before .before .before .before .before .args in
+    rw (c .enum-told .given .1) (record { is = (refl, stands-here (a .day) (a .numbers .now) (c .before .before .before .before .before .pre .1)) })
+
+returns-3 : tie.Need-returns-3
+returns-3 c = rw (c .before .before .got2 .given .1) (record { is = refl })
+
+pub answer-got-spec : {M : Type 1} → statement M
+answer-got-spec =
+    tie.close
+    (tie.spec
+    enum-known-got
+    slice-aggregate-answer-chunk
+    answer-chunk-requires
+    enum-told
+    enum-known-got-2
+    same-length
+    same-length-2
+    returns
+    returns-2
+    returns-3)

@@ -1,0 +1,217 @@
+// The loop that the filters share: standard input in chunks, the answers to standard output, the closing line to standard
+// error. Answers are written out before each read, which might wait.
+ghost use mathlib.Core.Path.{_≡_};
+ghost use mathlib.Core.List.{List};
+ghost use Prim.Native.Nat.{ℕ, _≤_, _<_};
+ghost use lib.ListN.{length};
+ghost use Rattle.line.specs.Put.{Put};
+ghost use Rattle.lines.specs.Counts.{closingLine};
+ghost use Rattle.lines.specs.Stream.{ended, lastSaid, pointOf, SanePiece, Went};
+ghost use Rattle.system.specs.Calls.{Within};
+ghost use Rattle.filter.specs.Turns.{Handed, OnChunk, Follows, Finished, Closing};
+use libc::STDERR_FILENO;
+use libc::STDOUT_FILENO;
+use lines::Counts;
+use lines::Day;
+use system::Got;
+use system::Sent;
+
+// What a turn came to: the run goes on, the input has ended, a read failed, a write failed. A run that broke off has so many
+// whole answers written, and the system's number for what went wrong.
+pub enum Turn {
+    More(Day),
+    Ended(Day),
+    Unread { answers: usize, error: usize },
+    Unwritten { answers: usize, error: usize },
+}
+
+// Hands the waiting bytes to the system.
+fn send(out: &[u8], used: usize) -> Sent
+    requires { ⌜ used ≤ length (now out) ⌝ }
+    ensures { λ r. ⌜ Handed used r ⌝ }
+{
+    system::write_all(STDOUT_FILENO, &out[..used])
+}
+
+// A day after a part of a chunk, the place behind the part, how many bytes answer it, and what became of them.
+struct Part {
+    day: Day,
+    at: usize,
+    used: usize,
+    sent: Sent,
+}
+
+// Takes a chunk from a place on, as far as the room for answers goes, and writes the answers out.
+fn answer_part(day: Day, chunk: &[u8], at: usize, numbers: &mut [u16], out: &mut [u8]) -> Part
+    requires { ⌜ SanePiece (day .piece) (now numbers) × (at < length (now chunk)) × (17600 ≤ length (now out)) ⌝ }
+    ensures { λ r. ⌜ Went (pointOf day (now (numbers .entry))) (now (chunk .entry)) at (r .at) 0 (r .used) (r .day) (now (numbers .exit)) (now (out .entry)) (now (out .exit)) × (at < r .at) × Handed (r .used) (r .sent) ⌝ }
+{
+    let step = lines::take(day, chunk, at, numbers, out);
+    let next = step.day;
+    let used = step.used;
+    Part {
+        day: next,
+        at: step.at,
+        used,
+        sent: send(out, used),
+    }
+}
+
+// So many answers and so many more, up to the largest number there is.
+fn together(answers: usize, more: usize) -> usize {
+    if more <= usize::MAX - answers {
+        answers + more
+    } else {
+        usize::MAX
+    }
+}
+
+// How many whole answers were written where the system stopped within those of a part.
+fn whole(before: usize, out: &[u8], sent: Sent) -> usize
+    requires { ⌜ sent .bytes ≤ length (now out) ⌝ }
+{
+    together(before, lines::line_ends(out, sent.bytes))
+}
+
+// Takes a chunk whole, part by part, unless a write fails.
+fn answer_chunk(day: Day, chunk: &[u8], numbers: &mut [u16], out: &mut [u8]) -> Turn
+    requires { ⌜ SanePiece (day .piece) (now numbers) × (17600 ≤ length (now out)) ⌝ }
+    ensures { λ r. ⌜ OnChunk r (pointOf day (now (numbers .entry))) (now (chunk .entry)) (now (numbers .exit)) ⌝ }
+{
+    let mut so_far = day;
+    let mut at = 0;
+    while at < chunk.len() {
+        let counts = so_far.counts;
+        let part = answer_part(so_far, chunk, at, numbers, out);
+        let sent = part.sent;
+        if !sent.whole {
+            return Turn::Unwritten {
+                answers: whole(counts.texts, out, sent),
+                error: sent.error,
+            };
+        }
+        so_far = part.day;
+        at = part.at;
+    }
+    Turn::More(so_far)
+}
+
+// What a read gave: a chunk is taken, the end is told, a failure makes up no answer.
+fn answer_got(got: Got, day: Day, buffer: &[u8], numbers: &mut [u16], out: &mut [u8]) -> Turn
+    requires { ⌜ Within got (now buffer) × SanePiece (day .piece) (now numbers) × (17600 ≤ length (now out)) ⌝ }
+    ensures { λ r. ⌜ Follows got r day (pointOf day (now (numbers .entry))) (now (buffer .entry)) (now (numbers .exit)) ⌝ }
+{
+    match got {
+        Got::Bytes(n) => answer_chunk(day, &buffer[..n], numbers, out),
+        Got::End => Turn::Ended(day),
+        Got::Failed(error) => {
+            let counts = day.counts;
+            Turn::Unread {
+                answers: counts.texts,
+                error,
+            }
+        }
+    }
+}
+
+// Takes all of standard input. A proved loop has to end, so it counts its turns down from a number that no run uses up.
+fn take_all(day: Day, buffer: &mut [u8], numbers: &mut [u16], out: &mut [u8]) -> Turn
+    requires { ⌜ SanePiece (day .piece) (now numbers) × (17600 ≤ length (now out)) ⌝ }
+    ensures { λ r. ⌜ Finished r (pointOf day (now (numbers .entry))) (now (numbers .exit)) ⌝ }
+{
+    let mut so_far = day;
+    let mut turns = u64::MAX;
+    while turns > 0 {
+        turns -= 1;
+        let got = system::read_some(buffer);
+        let turn = answer_got(got, so_far, buffer, numbers, out);
+        match turn {
+            Turn::More(next) => {
+                so_far = next;
+            }
+            Turn::Ended(last) => {
+                return Turn::Ended(last);
+            }
+            Turn::Unread { answers, error } => {
+                return Turn::Unread { answers, error };
+            }
+            Turn::Unwritten { answers, error } => {
+                return Turn::Unwritten { answers, error };
+            }
+        }
+    }
+    let counts = so_far.counts;
+    Turn::Unread {
+        answers: counts.texts,
+        error: 0,
+    }
+}
+
+// The counts of a whole run, how many bytes answer its last piece, and what became of them.
+struct Last {
+    counts: Counts,
+    used: usize,
+    sent: Sent,
+}
+
+// Answers the last piece, unless it is empty.
+fn answer_last(day: Day, numbers: &mut [u16], out: &mut [u8]) -> Last
+    requires { ⌜ SanePiece (day .piece) (now numbers) × (17600 ≤ length (now out)) ⌝ }
+    ensures { λ r. ⌜ (r .counts ≡ ended (pointOf day (now (numbers .entry))) .counts) × Put 0 (lastSaid (pointOf day (now (numbers .entry)))) (now (out .entry)) (now (out .exit)) (r .used) × Handed (r .used) (r .sent) ⌝ }
+{
+    let closed = lines::finish(day, numbers, out);
+    let used = closed.used;
+    let last = closed.day;
+    let counts = last.counts;
+    Last {
+        counts,
+        used,
+        sent: send(out, used),
+    }
+}
+
+// The closing line, by which whoever started the run knows that it is whole.
+fn close(counts: Counts, out: &mut [u8]) -> Sent
+    requires { ⌜ 100 ≤ length (now out) ⌝ }
+    ensures { λ r. ⌜ Closing counts (now (out .exit)) r ⌝ }
+{
+    let n = lines::closing(counts, out);
+    system::write_all(STDERR_FILENO, &out[..n])
+}
+
+// The end of the input: the last piece, and the closing line if all was written.
+fn finish(day: Day, numbers: &mut [u16], out: &mut [u8])
+    requires { ⌜ SanePiece (day .piece) (now numbers) × (17600 ≤ length (now out)) ⌝ }
+{
+    let before = day.counts;
+    let last = answer_last(day, numbers, out);
+    let sent = last.sent;
+    if sent.whole {
+        let counts = last.counts;
+        close(counts, out);
+    } else {
+        system::say_unwritten(sent.error, before.texts);
+    }
+}
+
+// Answers all of standard input.
+pub fn run(day: Day)
+    requires { ⌜ ((numbers : List ℕ) → length numbers ≡ 834 → SanePiece (day .piece) numbers) ⌝ }
+{
+    let mut numbers = [0u16; 834];
+    let mut buffer = [0u8; 65536];
+    let mut out = [0u8; 65536];
+    let turn = take_all(day, &mut buffer, &mut numbers, &mut out);
+    match turn {
+        Turn::More(_) => {}
+        Turn::Ended(last) => {
+            finish(last, &mut numbers, &mut out);
+        }
+        Turn::Unread { answers, error } => {
+            system::say_unread(error, answers);
+        }
+        Turn::Unwritten { answers, error } => {
+            system::say_unwritten(error, answers);
+        }
+    }
+}
