@@ -17,16 +17,9 @@ use Rattle.system.specs.declared.Sent.{Sent}
 use Rattle.system.specs.Calls.{chunkOf}
 use Rattle.system.specs.declared.Got.{Got}
 use Rattle.system.specs.declared.Got.the-variants.{Bytes, End, Failed}
-use Rattle.filter.specs.Turns.{Handed, OnChunk, Follows}
+use Rattle.filter.specs.Turns.{OnChunk, Follows}
 use Rattle.filter.specs.declared.Turn.{Turn}
 use Rattle.filter.specs.declared.Turn.the-variants.{More, Ended, Unread, Unwritten}
-
--- the first bytes of a buffer, handed to the system
-pub handed-front : {used : ℕ} (out : List ℕ) {sent : Sent} → used ≤ length out → sent .bytes ≤ length (take used out) → sent .whole ≡ eqb (sent .bytes) (length (take used out))
-    → Handed used sent
-handed-front {used} out h s w =
-    let long : length (take used out) ≡ used = length-take-le used out h in
-    record { some = rw long at s; all = rw long at w }
 
 -- what was put at the front
 pub put-used : {at r : ℕ} {l d e : List ℕ} → Put at l d e r → r ≤ length e

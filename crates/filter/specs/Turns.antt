@@ -11,16 +11,12 @@ use Rattle.lines.specs.Stream.{Point, run, said, ended, lastSaid, Stands, Went,
 use Rattle.lines.specs.declared.Counts.{Counts}
 use Rattle.lines.specs.declared.Day.{Day}
 use Rattle.line.specs.Put.{Put}
+use Rattle.system.specs.Calls.{Handed}
 use Rattle.system.specs.declared.Got.{Got}
 use Rattle.system.specs.declared.Got.the-variants.{Bytes, End, Failed}
 use Rattle.system.specs.declared.Sent.{Sent}
 use Rattle.filter.specs.declared.Turn.{Turn}
 use Rattle.filter.specs.declared.Turn.the-variants.{More, Ended, Unread, Unwritten}
-
--- the waiting bytes were handed to the system: it took so many, and it took all of them or the write is not whole
-pub record Handed (waiting : ℕ) (sent : Sent) : Type 0 where
-  pub some : sent .bytes ≤ waiting
-  pub all : sent .whole ≡ eqb (sent .bytes) waiting
 
 -- a chunk was taken whole, or a write failed
 abbrev pub OnChunk : Turn → Point → List ℕ → List ℕ → Type 0

@@ -1,17 +1,69 @@
-// The reading program: one frame's text on standard input, one answer line on standard output.
-ghost use lib.ListN.{length};
+// The reading program: one frame's text on standard input, over any number of lines, one answer line on standard output.
 ghost use mathlib.Core.Path.{_≡_};
-ghost use Rattle.text.specs.Scan.{Sane};
-ghost use Rattle.lora_read.specs.Turn.{Kept};
-use libc::STDIN_FILENO;
+ghost use Prim.Native.Nat.{_≤_};
+ghost use lib.ListN.{length};
+ghost use Rattle.system.specs.Calls.{Within};
+ghost use Rattle.text.specs.Scan.{Sane, stateOf, lineAt};
+ghost use Rattle.lora_read.specs.Turns.{Follows, Finished, Printing};
 use libc::STDOUT_FILENO;
+use system::Asked;
+use system::Got;
+use system::Sent;
 use text::Scan;
 
-// What one read of standard input gave: more of the text, its end, or a failure.
+// What a read came to: more of the text, its end, or a failure with the system's number for it.
 enum Turn {
     More(Scan),
-    End,
-    Failed,
+    Ended(Scan),
+    Unread(usize),
+}
+
+// What a read gave, taken into the text.
+fn take_got(got: Got, scan: Scan, buffer: &[u8], numbers: &mut [u16]) -> Turn
+    requires { ⌜ Within got (now buffer) × Sane scan (now numbers) ⌝ }
+    ensures { λ r. ⌜ Follows got r scan (stateOf scan (now (numbers .entry))) (now (buffer .entry)) (now (numbers .exit)) ⌝ }
+{
+    match got {
+        Got::Bytes(n) => Turn::More(text::feed(scan, &buffer[..n], numbers)),
+        Got::End => Turn::Ended(scan),
+        Got::Failed(error) => Turn::Unread(error),
+    }
+}
+
+// Takes the whole text. A proved loop has to end, so it counts its turns down from a number that no run uses up.
+fn take_all(buffer: &mut [u8], numbers: &mut [u16]) -> Turn
+    requires { ⌜ length (now numbers) ≡ 834 ⌝ }
+    ensures { λ r. ⌜ Finished r (now (numbers .exit)) ⌝ }
+{
+    let mut scan = text::begin();
+    let mut turns = u64::MAX;
+    while turns > 0 {
+        turns -= 1;
+        let got = system::read_some(buffer);
+        let turn = take_got(got, scan, buffer, numbers);
+        match turn {
+            Turn::More(next) => {
+                scan = next;
+            }
+            Turn::Ended(last) => {
+                return Turn::Ended(last);
+            }
+            Turn::Unread(error) => {
+                return Turn::Unread(error);
+            }
+        }
+    }
+    Turn::Unread(0)
+}
+
+// Writes the answer to the text that was taken.
+fn print(scan: Scan, numbers: &mut [u16], line: &mut [u8]) -> Sent
+    requires { ⌜ Sane scan (now numbers) × (640 ≤ length (now line)) ⌝ }
+    ensures { λ r. ⌜ Printing (lineAt (stateOf scan (now (numbers .entry)))) (now (line .exit)) r ⌝ }
+{
+    let answer = text::answer(scan, numbers, line);
+    let n = answer.length;
+    system::write_all(STDOUT_FILENO, &line[..n])
 }
 
 // A text that can't be taken, as one is whose reading failed.
@@ -26,51 +78,56 @@ fn failed() -> Scan
     }
 }
 
-fn take_some(scan: Scan, numbers: &mut [u16]) -> Turn
+// Prints the answer, and says so where it could not be written.
+fn answer(scan: Scan, numbers: &mut [u16])
     requires { ⌜ Sane scan (now numbers) ⌝ }
-    ensures { λ r. ⌜ Kept r (now (numbers .entry)) (now (numbers .exit)) ⌝ }
 {
-    let mut buffer = [0u8; 65536];
-    let got = libc::read(STDIN_FILENO, &mut buffer);
-    if got < 0 {
-        return Turn::Failed;
+    let mut line = [0u8; 640];
+    let sent = print(scan, numbers, &mut line);
+    if !sent.whole {
+        system::say_unwritten(sent.error, 0);
     }
-    if got == 0 {
-        return Turn::End;
-    }
-    let n = io::count(got, &buffer);
-    Turn::More(text::feed(scan, &buffer[..n], numbers))
 }
 
-// Takes the whole text. A proved loop has to end, so it counts its turns down from a number that no run uses up.
-fn take_all(numbers: &mut [u16]) -> Scan
-    requires { ⌜ length (now numbers) ≡ 834 ⌝ }
-    ensures { λ r. ⌜ Sane r (now (numbers .exit)) ⌝ }
-{
-    let mut scan = text::begin();
-    let mut turns = u64::MAX;
-    while turns > 0 {
-        turns -= 1;
-        let turn = take_some(scan, numbers);
-        match turn {
-            Turn::More(next) => {
-                scan = next;
-            }
-            Turn::End => {
-                return scan;
-            }
-            Turn::Failed => {
-                return failed();
-            }
+fn run() {
+    let mut numbers = [0u16; 834];
+    let mut buffer = [0u8; 65536];
+    let turn = take_all(&mut buffer, &mut numbers);
+    match turn {
+        Turn::More(_) => {}
+        Turn::Ended(scan) => {
+            answer(scan, &mut numbers);
+        }
+        Turn::Unread(error) => {
+            system::say_failed(error);
+            answer(failed(), &mut numbers);
         }
     }
-    failed()
+}
+
+fn help() {
+    system::write_all(STDOUT_FILENO, b"\
+lora_read < frame
+
+Reads one LoRa frame: SF, low rate (0 or 1), then the symbols, in decimal, with spaces or line ends between. Symbol numbers
+count from 0. It prints one line:
+  ok LENGTH CR CHECKSUM SYMBOLS REPAIRS PAYLOAD    payload in hex, - if empty
+  no NUMBER PLACE                                  docs/REFUSALS.md says what each number means
+For a file with a frame on each line there is lora_lines.
+");
 }
 
 fn main() {
-    let mut numbers = [0u16; 834];
-    let mut line = [0u8; 640];
-    let scan = take_all(&mut numbers);
-    let n = text::answer(scan, &mut numbers, &mut line);
-    io::write_all(STDOUT_FILENO, &line[..n]);
+    let asked = system::arguments();
+    match asked {
+        Asked::Work => {
+            run();
+        }
+        Asked::Help => {
+            help();
+        }
+        Asked::Other => {
+            system::say(b"lora_read takes no argument but --help\n");
+        }
+    }
 }

@@ -1,10 +1,8 @@
 // The system's calls that the programs share: reads and writes, the wait between two tries, the arguments.
 // What a call reads or writes no contract can say; what is counted and handed on, these contracts do.
-ghost use mathlib.Core.Path.{_≡_};
 ghost use Prim.Native.Nat.{_≤_};
-ghost use lib.Dec.{eqb};
 ghost use lib.ListN.{length};
-ghost use Rattle.system.specs.Calls.{Within};
+ghost use Rattle.system.specs.Calls.{Within, Handed};
 use libc::STDERR_FILENO;
 use libc::STDIN_FILENO;
 
@@ -124,7 +122,7 @@ fn write_from(fd: i32, bytes: &[u8], done: usize) -> Try
 
 // Writes all the bytes, waiting where the reader is slow, or stops at the first write that fails.
 pub fn write_all(fd: i32, bytes: &[u8]) -> Sent
-    ensures { λ r. ⌜ (r .bytes ≤ length (now (bytes .entry))) × (r .whole ≡ eqb (r .bytes) (length (now (bytes .entry)))) ⌝ }
+    ensures { λ r. ⌜ Handed (length (now (bytes .entry))) r ⌝ }
 {
     let mut done = 0;
     let mut error = 0;
@@ -164,6 +162,13 @@ pub fn say_unwritten(error: usize, answers: usize) {
     say(b"), ");
     say_number(answers);
     say(b" whole answers written\n");
+}
+
+// The line for a read that failed, where one text is all the input.
+pub fn say_failed(error: usize) {
+    say(b"reading failed (error ");
+    say_number(error);
+    say(b")\n");
 }
 
 // The line for a read that failed: the line that it cut short has no answer.

@@ -2,7 +2,7 @@
 -- Assumes nothing.
 use mathlib.Core.Path.{sym}
 use lib.Seq.{length-take-le}
-use Rattle.filter.proofs.TurnLaws.{handed-front, put-used, put-front, put-next}
+use Rattle.filter.proofs.TurnLaws.{put-used, put-front, put-next}
 use borrow.Author.Needs.{needs}
 use Rattle.filter.proofs.close.Statement.{statement}
 use Rattle.filter.proofs.close.Tie as tie
@@ -25,8 +25,7 @@ same-length c = search needs
 returns : tie.Need-returns
 returns c =
     let p = c .before .before .before .before .closing .ensures in
-    let e = c .write-all .ensures in
-    record { line = put-front p; handed = rw (← put-next p) (handed-front (c .before .before .before .before .closing .last .1 .0) (put-used p) (e .0) (e .1)) }
+    record { line = put-front p; handed = rw (length-take-le (c .before .before .before .before .closing .result) (c .before .before .before .before .closing .last .1 .0) (put-used p), put-next p) at (c .write-all .ensures) }
 
 pub close-spec : {M : Type 1} → statement M
 close-spec =

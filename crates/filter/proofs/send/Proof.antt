@@ -2,7 +2,6 @@
 -- Assumes nothing.
 use mathlib.Core.Path.{sym}
 use lib.Seq.{length-take-le}
-use Rattle.filter.proofs.TurnLaws.{handed-front}
 use borrow.Author.Needs.{needs}
 use Rattle.filter.proofs.send.Statement.{statement}
 use Rattle.filter.proofs.send.Tie as tie
@@ -14,7 +13,7 @@ write-all-requires : tie.Need-write-all-requires
 write-all-requires c κs = search needs
 
 returns : tie.Need-returns
-returns c = let e = c .write-all .ensures in handed-front (c .before .before .before .args .out .now) (search needs) (e .0) (e .1)
+returns c = let a = c .before .before .before .args in rw (length-take-le (a .used) (a .out .now) (search needs)) at (c .write-all .ensures)
 
 pub send-spec : {M : Type 1} → statement M
 send-spec = tie.close (tie.spec slice-aggregate-write-all write-all-requires returns)

@@ -1,0 +1,47 @@
+-- `print` hands the whole line over.
+-- Assumes nothing.
+use mathlib.Core.Path.{sym}
+use native.Mathlib.Omega.{arith}
+use lib.Seq.{length-take-le}
+use Rattle.lora_read.proofs.TurnLaws.{front}
+use borrow.Author.Needs.{needs}
+use Rattle.lora_read.proofs.print.Statement.{statement}
+use Rattle.lora_read.proofs.print.Tie as tie
+
+answer-requires : tie.Need-answer-requires
+answer-requires c κs = search needs
+
+slice-reshare-prefix-write-all : tie.Need-slice-reshare-prefix-write-all
+slice-reshare-prefix-write-all c = search needs
+
+slice-aggregate-write-all : tie.Need-slice-aggregate-write-all
+slice-aggregate-write-all c = sym (length-take-le (c .before .before .before .before .before .answer .result .length) (c .before .before .before .before .before .answer .last .1 .1 .0) (search needs))
+
+write-all-requires : tie.Need-write-all-requires
+write-all-requires c κs = search needs
+
+same-length : tie.Need-same-length
+same-length c = search needs
+
+same-length-2 : tie.Need-same-length-2
+same-length-2 c = search needs
+
+returns : tie.Need-returns
+returns c =
+    let e = c .before .before .before .before .before .before .answer .ensures in
+    record {
+      is = front _ _ (e .cells);
+      handed = rw (length-take-le (c .before .before .before .before .before .before .answer .result .length) (c .before .before .before .before .before .before .answer .last .1 .1 .0) (search needs), e .long) at (c .write-all .ensures);
+    }
+
+pub print-spec : {M : Type 1} → statement M
+print-spec =
+    tie.close
+    (tie.spec
+    answer-requires
+    slice-reshare-prefix-write-all
+    slice-aggregate-write-all
+    write-all-requires
+    same-length
+    same-length-2
+    returns)
