@@ -140,7 +140,7 @@ fn put_word(out: &mut [u8], a: u8, b: u8) -> usize
     put(out, next, b)
 }
 
-fn flag(b: bool) -> usize
+pub fn flag(b: bool) -> usize
     ensures { λ r. ⌜ r ≡ asBit b ⌝ }
 {
     if b { 1 } else { 0 }

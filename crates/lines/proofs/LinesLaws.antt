@@ -11,7 +11,7 @@ use Rattle.text.specs.Text as text
 use Rattle.text.specs.Scan as text-scan
 use Rattle.wish.specs.Scan as wish-scan
 use Rattle.text.proofs.AnswerLaws.{answers-text, outcome-text}
-use Rattle.wish.proofs.ScanLaws.{answers-wish, outcome-wish}
+use Rattle.wish.proofs.AnswerLaws.{answers-wish, outcome-wish}
 use Rattle.lines.specs.Counts.{none, counted}
 use Rattle.lines.specs.Lines.{Job, frames, wishes, piecesFrom, pieces, lineTo, outcomeTo, linesTo, countsFrom, outputOf, countsOf}
 use Rattle.lines.specs.Stream.{At, startOf, jobOf, runAt, lineAt, outcomeAt, Point, begin, next, on, run, said, ended, lastSaid}

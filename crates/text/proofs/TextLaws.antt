@@ -15,11 +15,11 @@ use Rattle.text.specs.Text.{isSeparator, isDigit, closed, wordsFrom, dec
 use Rattle.text.specs.Scan.{State, start, refuse, shut, grown, step, run, ended, taken}
 
 -- two tests, and three
-both-one : (a b : Bool) → both a b ≡ true → a ≡ true
+pub both-one : (a b : Bool) → both a b ≡ true → a ≡ true
 both-one true b p = refl
 both-one false b p = p
 
-both-two : (a b : Bool) → both a b ≡ true → b ≡ true
+pub both-two : (a b : Bool) → both a b ≡ true → b ≡ true
 both-two true b p = p
 both-two false b p = absurd (let z : _≡_ {A = ℕ} 0 1 = cc in omega arith)
 
@@ -28,7 +28,7 @@ both-group true b c = refl
 both-group false b c = refl
 
 -- what makes a word a number
-record Number (word : List ℕ) : Type 0 where
+pub record Number (word : List ℕ) : Type 0 where
   few : length word ≤ 5
   digits : allDigits word ≡ true
   small : valueOf word ≤ 65535
@@ -62,7 +62,7 @@ value-more : (word : List ℕ) (b : ℕ) → valueOf (word ++ (b ∷ [])) ≡ va
 unfolding valueOf
 value-more word b = decimal-more 0 word b
 
-length-more : (word : List ℕ) (b : ℕ) → length (word ++ (b ∷ [])) ≡ length word + 1
+pub length-more : (word : List ℕ) (b : ℕ) → length (word ++ (b ∷ [])) ≡ length word + 1
 length-more word b = length-append word (b ∷ [])
 
 -- a number with a byte more is a number where the byte is a digit, the digits are few and the value is small
@@ -86,7 +86,7 @@ number-less : (word : List ℕ) (b : ℕ) → Number (word ++ (b ∷ [])) → Nu
 number-less word b n =
     record { few = omega (arith, n .few, length-more word b); digits = both-one (allDigits word) (isDigit b) (sym (digits-more word b) ∙ n .digits); small = omega (arith, n .small, value-more word b) }
 
-spoiled-more : (word : List ℕ) (b : ℕ) → isNumber word ≡ false → isNumber (word ++ (b ∷ [])) ≡ false
+pub spoiled-more : (word : List ℕ) (b : ℕ) → isNumber word ≡ false → isNumber (word ++ (b ∷ [])) ≡ false
 spoiled-more word b p = go (isNumber (word ++ (b ∷ []))) refl
   where
     go : (t : Bool) → isNumber (word ++ (b ∷ [])) ≡ t → t ≡ false
@@ -104,13 +104,13 @@ unfolding values
 values-append [] ys = refl
 values-append (w ∷ xs) ys = rw (values-append xs ys)
 
-length-values : (ws : List (List ℕ)) → length (values ws) ≡ length ws
+pub length-values : (ws : List (List ℕ)) → length (values ws) ≡ length ws
 unfolding values
 length-values [] = refl
 length-values (w ∷ ws) = ap suc (length-values ws)
 
 -- a word with something in it is one word
-closed-one : (word : List ℕ) → 0 < length word → closed word ≡ word ∷ []
+pub closed-one : (word : List ℕ) → 0 < length word → closed word ≡ word ∷ []
 unfolding closed
 closed-one [] h = absurd (omega arith)
 closed-one (b ∷ word) h = refl
@@ -189,10 +189,10 @@ unfolding judged
 judged-good words p = rw p
 
 -- a state that has the words done behind it and the word open
-record Stands (s : State) (done : List (List ℕ)) (word : List ℕ) : Type 0 where
-  going : s .refused ≡ false
-  held : s .numbers ≡ values done
-  good : allNumbers done ≡ true
+pub record Stands (s : State) (done : List (List ℕ)) (word : List ℕ) : Type 0 where
+  pub going : s .refused ≡ false
+  pub held : s .numbers ≡ values done
+  pub good : allNumbers done ≡ true
   room : length done ≤ 834
   digits : s .digits ≡ length word
   value : s .value ≡ valueOf word
@@ -203,7 +203,7 @@ unfolding allDigits valueOf decimalFrom
 none-open = record { few = omega arith; digits = refl; small = omega arith }
 
 -- the open word ends, or there are too many
-shut-stands : {s : State} {done : List (List ℕ)} (word : List ℕ) → Stands s done word
+pub shut-stands : {s : State} {done : List (List ℕ)} (word : List ℕ) → Stands s done word
     → Stands (shut s) (done ++ closed word) [] ⊎ ((shut s .refused ≡ true) × (834 < length (done ++ closed word)))
 unfolding shut closed refuse allNumbers values valueOf decimalFrom
 shut-stands {s} {done} [] p = inl (rw (eq-eqb (s .digits) 0 (p .digits), append-nil done) p)
@@ -233,7 +233,7 @@ shut-stands {s} {done} (a ∷ word) p =
     go false q = inr (refl, omega (arith, ltb-false (length (s .numbers)) 834 q, long, more))
 
 -- a byte that is no separator
-word-more : {s : State} {done : List (List ℕ)} {word : List ℕ} (b : ℕ) → Stands s done word → isSeparator b ≡ false
+pub word-more : {s : State} {done : List (List ℕ)} {word : List ℕ} (b : ℕ) → Stands s done word → isSeparator b ≡ false
     → Stands (step s b) done (word ++ (b ∷ [])) ⊎ ((step s b .refused ≡ true) × (isNumber (word ++ (b ∷ [])) ≡ false))
 unfolding step grown refuse
 word-more {s} {done} {word} b p n = rw (p .going, n) (go (isDigit b) refl)
@@ -278,14 +278,16 @@ scan-from (b ∷ bs) {s} {done} {word} p = go (isSeparator b) refl (λ q. scan-f
         ⊎-elim on (λ q. taken-refused (step s b) bs (q .0) ∙ sym (judged-spoiled done _ (spoiled (word ++ (b ∷ [])) bs (omega (arith, length-more word b)) (q .1))))
         (word-more b p e)
 
+-- nothing taken yet
+pub stands-start : Stands start [] []
+unfolding start values allNumbers valueOf decimalFrom
+stands-start = record { going = refl; held = refl; good = refl; room = omega arith; digits = refl; value = refl; number = none-open }
+
 -- scanning a whole text gives the text
 pub scanned : (bytes : List ℕ) → taken (run start bytes) ≡ textOf bytes
-unfolding textOf judged start values allNumbers valueOf decimalFrom
-scanned bytes = scan-from bytes begins ∙ is
+unfolding textOf judged
+scanned bytes = scan-from bytes stands-start ∙ is
   where
-    begins : Stands start [] []
-    begins = record { going = refl; held = refl; good = refl; room = omega arith; digits = refl; value = refl; number = none-open }
-
     is : judged (wordsFrom [] bytes) ≡ check (allNumbers (wordsFrom [] bytes)) bad (frameOf (values (wordsFrom [] bytes)))
     is = refl
 

@@ -87,7 +87,7 @@ fn add_digit(scan: Scan, b: u8, numbers: &[u16]) -> Scan
 }
 
 // One byte of the text.
-fn take_byte(scan: Scan, b: u8, numbers: &mut [u16]) -> Scan
+pub fn take_byte(scan: Scan, b: u8, numbers: &mut [u16]) -> Scan
     requires { ⌜ Sane scan (now numbers) ⌝ }
     ensures { λ r. ⌜ Holds (step (stateOf scan (now (numbers .entry))) b) r (now (numbers .exit)) ⌝ }
 {
@@ -141,7 +141,7 @@ pub fn is_frame(scan: Scan, numbers: &[u16]) -> bool
 }
 
 // SF as the operations take it: what does not fit a byte is no spreading factor, and 255 is none either.
-fn narrow(sf: u16) -> u8
+pub fn narrow(sf: u16) -> u8
     ensures { λ r. ⌜ r ≡ pick (leb sf 255) sf 255 ⌝ }
 {
     if sf <= 255 { sf as u8 } else { 255 }

@@ -1,1 +1,5 @@
+pub mod AnswerLaws
+pub mod HexLaws
+pub mod PayloadLaws
 pub mod ScanLaws
+pub mod WishLaws

@@ -1,8 +1,108 @@
-use mathlib.Core.List.{List}
-use Prim.Native.Nat.{ℕ}
+-- The coding program's text: a wish for a frame, as a list of bytes, and the line that answers it.
+-- Assumes nothing.
+use mathlib.Core.Bool.{Bool, true, false}
+use mathlib.Core.List.{List, [], _∷_, _++_}
+use Prim.Native.Nat.{ℕ, _+_, _-_, _*_, _%_}
+use lib.Dec.{leb, eqb}
+use lib.ListN.{length, getD}
+use Rattle.bits.specs.Bit.{isSet, asBit}
+use Rattle.bits.specs.Pick.{pick, both, either, check}
+use Rattle.bits.specs.Tab.{tab}
+use Rattle.line.specs.Line.{decimal, field, lineOf}
 use Rattle.line.specs.declared.Outcome.{Outcome}
-use Rattle.text.specs.Text as t
+use Rattle.line.specs.declared.Outcome.the-variants.{Clean, Declined}
+use Rattle.lora.specs.Code.{sentSymbol, codeOf}
+use Rattle.lora.specs.declared.Settings.{Settings}
+use Rattle.lora.specs.declared.Counted.{Counted}
+use Rattle.lora.specs.declared.Counted.the-variants.{Symbols, Refused}
+use Rattle.lora.specs.declared.Received.the-variants as received
+use Rattle.text.specs.Text.{isDigit, wordsFrom, isNumber, valueOf}
+
+-- a hex digit of either case, and its value
+abbrev pub isHex : ℕ → Bool
+isHex b = either (isDigit b) (either (both (leb 65 b) (leb b 70)) (both (leb 97 b) (leb b 102)))
+
+abbrev pub hexValue : ℕ → ℕ
+hexValue b = pick (leb b 57) (b - 48) (pick (leb b 70) (b - 55) (b - 87))
+
+unfoldable pub allHex : List ℕ → Bool
+allHex [] = true
+allHex (b ∷ bs) = both (isHex b) (allHex bs)
+
+-- two digits a byte, the upper first
+unfoldable pub bytesOf : List ℕ → List ℕ
+bytesOf [] = []
+bytesOf (high ∷ []) = []
+bytesOf (high ∷ low ∷ digits) = (hexValue high * 16 + hexValue low) ∷ bytesOf digits
+
+-- a payload in hex: a hyphen if it is empty, else an even number of digits (no word is empty)
+unfoldable pub isHyphen : List ℕ → Bool
+isHyphen [] = false
+isHyphen (b ∷ []) = eqb b 45
+isHyphen (b ∷ c ∷ bs) = false
+
+unfoldable pub isPayload : List ℕ → Bool
+isPayload word = either (isHyphen word) (both (allHex word) (eqb (length word % 2) 0))
+
+unfoldable pub payloadOf : List ℕ → List ℕ
+payloadOf word = pick (isHyphen word) [] (bytesOf word)
+
+-- a number that is 0 or 1
+unfoldable pub isFlag : List ℕ → Bool
+isFlag word = both (isNumber word) (leb (valueOf word) 1)
+
+-- what a text says: settings and a payload; or it can't be taken
+pub data Wish : Type 0 where
+  bad : Wish
+  wish : Settings → List ℕ → Wish
+
+unfoldable pub settingsOf : List ℕ → List ℕ → List ℕ → List ℕ → Settings
+settingsOf sf low cr flag = record { sf = valueOf sf; low = isSet (valueOf low); cr = valueOf cr; checksum = isSet (valueOf flag) }
+
+unfoldable pub wishIn : List ℕ → List ℕ → List ℕ → List ℕ → List ℕ → Wish
+wishIn sf low cr flag payload =
+    check (isNumber sf) bad
+    (check (isFlag low) bad
+    (check (isNumber cr) bad
+    (check (isFlag flag) bad
+    (check (isPayload payload) bad
+    (wish (settingsOf sf low cr flag) (payloadOf payload))))))
+
+-- five words: SF, low rate (0 or 1), CR, checksum flag (0 or 1), payload
+unfoldable pub wishOf : List (List ℕ) → Wish
+wishOf words =
+    check (eqb (length words) 5) bad
+    (wishIn (getD words 0 []) (getD words 1 []) (getD words 2 []) (getD words 3 []) (getD words 4 []))
+
+-- the numbers of a list, each after a space
+unfoldable pub fields : List ℕ → List ℕ
+fields [] = []
+fields (n ∷ ns) = field n ++ fields ns
+
+-- the line that the reading program takes: SF, low rate, symbols; byte 10 at the end
+unfoldable pub frameLine : Settings → List ℕ → List ℕ
+frameLine s symbols = decimal (s .sf) ++ (field (asBit (s .low)) ++ (fields symbols ++ (10 ∷ [])))
+
+-- the line for what code answers, into a list of 832 cells; how it was answered
+abbrev pub lineFor : Settings → List ℕ → Counted → List ℕ
+lineFor s payload (Symbols count) = frameLine s (tab count (sentSymbol s payload))
+lineFor s payload (Refused number place) = lineOf (received.Refused number place) []
+
+abbrev pub outcomeFor : Counted → Outcome
+outcomeFor (Symbols count) = Clean
+outcomeFor (Refused number place) = Declined
+
+-- any text that can't be taken is refusal 14
+abbrev pub answerTo : Wish → List ℕ
+answerTo bad = lineOf (received.Refused 14 0) []
+answerTo (wish s payload) = lineFor s payload (codeOf s payload 832)
+
+abbrev pub outcomeTo : Wish → Outcome
+outcomeTo bad = Declined
+outcomeTo (wish s payload) = outcomeFor (codeOf s payload 832)
+
 unfoldable pub answerOf : List ℕ → List ℕ
-answerOf bytes = t.answerOf bytes
+answerOf bytes = answerTo (wishOf (wordsFrom [] bytes))
+
 unfoldable pub outcomeIs : List ℕ → Outcome
-outcomeIs bytes = t.outcomeIs bytes
+outcomeIs bytes = outcomeTo (wishOf (wordsFrom [] bytes))

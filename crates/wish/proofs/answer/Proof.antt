@@ -1,28 +1,52 @@
-use native.Mathlib.Omega.{arith}
-use Rattle.wish.specs.Scan.{stateOf, lineAt, outcomeAt}
+-- `answer` declines what is no wish.
+-- Assumes nothing.
+use mathlib.Core.Path.{sym, _∙_}
+use borrow.Author.Tests.{not-true, not-false}
+use Rattle.wish.specs.Scan.{lineAt, outcomeAt}
+use Rattle.wish.proofs.AnswerLaws.{wish-is}
 use borrow.Author.Needs.{needs}
 use Rattle.wish.proofs.answer.Statement.{statement}
 use Rattle.wish.proofs.answer.Tie as tie
-use Rattle.wish.proofs.answer.Reads as reads
-use Rattle.wish.proofs.answer.Lts as lts
-use Rattle.text.proofs.answer.Reads as answer-reads
 
--- src/lib.rt:34:5
-answer-requires : tie.Need-answer-requires
-answer-requires c κs = search needs
+is-wish-requires : tie.Need-is-wish-requires
+is-wish-requires c κs = search needs
 
--- src/lib.rt:29:1
+decline-requires : tie.Need-decline-requires
+decline-requires c κs = search needs
+
 same-length : tie.Need-same-length
 same-length c = search needs
 
--- src/lib.rt:29:1
 same-length-2 : tie.Need-same-length-2
 same-length-2 c = search needs
 
--- src/lib.rt:29:1
 returns : tie.Need-returns
-unfolding stateOf lineAt outcomeAt
-returns c = let e = c .before .before .before .before .answer .ensures in record { long = e .long; short = omega (arith, e .short); cells = e .cells; is = e .is }
+unfolding lineAt outcomeAt
+returns c = rw (wish-is (c .before .before .before .before .before .before .before .before .before .pre .0), sym (c .before .before .before .before .before .is-wish .ensures) ∙ not-true _ (c .before .before .before .before .if1 .taken)) (c .before .before .decline .ensures)
+
+answer-wish-requires : tie.Need-answer-wish-requires
+answer-wish-requires c κs = search needs
+
+same-length-3 : tie.Need-same-length-3
+same-length-3 c = search needs
+
+same-length-4 : tie.Need-same-length-4
+same-length-4 c = search needs
+
+returns-2 : tie.Need-returns-2
+unfolding lineAt outcomeAt
+returns-2 c = rw (wish-is (c .before .before .before .before .before .before .before .before .before .before .pre .0), sym (c .before .before .before .before .before .before .is-wish .ensures) ∙ not-false _ (c .before .before .before .before .before .if1 .left)) (c .before .before .answer-wish .ensures)
 
 pub answer-spec : {M : Type 1} → statement M
-answer-spec = tie.close (tie.spec answer-requires same-length same-length-2 returns)
+answer-spec =
+    tie.close
+    (tie.spec
+    is-wish-requires
+    decline-requires
+    same-length
+    same-length-2
+    returns
+    answer-wish-requires
+    same-length-3
+    same-length-4
+    returns-2)

@@ -1,23 +1,62 @@
-use Rattle.wish.specs.Scan.{stateOf, run}
+-- `feed` takes a piece byte by byte. The loop's invariant: the bytes before the place i are taken.
+-- Assumes nothing.
+use native.Mathlib.Omega.{arith}
+use Prim.Native.Nat.{_≤_, _-_}
+use mathlib.Core.Path.{_≡_}
+use lib.ListN.{length, take}
+use Rattle.wish.specs.Scan.{Holds, stateOf, run}
+use Rattle.wish.proofs.ScanLaws.{fed-none, fed-more, fed-all}
 use borrow.Author.Needs.{needs}
 use Rattle.wish.proofs.feed.Statement.{statement}
 use Rattle.wish.proofs.feed.Tie as tie
-use Rattle.wish.proofs.feed.Reads as reads
-use Rattle.wish.proofs.feed.Lts as lts
-use Rattle.text.proofs.feed.Reads as feed-reads
 
--- src/lib.rt:25:15
-feed-requires : tie.Need-feed-requires
-feed-requires c κs = search needs
+abbrev Inv-loop : tie.InvT-loop
+Inv-loop piece numbers₀ at₀ i₀ i-end numbers at i = (i ≤ i-end) × (i-end ≡ length piece) × Holds (run (stateOf at₀ numbers₀) (take i piece)) at numbers
 
--- src/lib.rt:19:1
-same-length : tie.Need-same-length
+abbrev μ-loop : tie.MeasureT-loop
+μ-loop piece numbers₀ at₀ i₀ i-end numbers at i = i-end - i
+
+loop-holds : tie.Need-loop-holds Inv-loop μ-loop
+loop-holds c = (search needs, search needs, fed-none (c .before .before .args .piece .now) (c .before .before .pre))
+
+shared-slice-read-take-byte : tie.Need-shared-slice-read-take-byte Inv-loop μ-loop
+shared-slice-read-take-byte c = search needs
+
+take-byte-requires : tie.Need-take-byte-requires Inv-loop μ-loop
+take-byte-requires c κs = search needs
+
+add-i : tie.Need-add-i Inv-loop μ-loop
+add-i c = search needs
+
+loop-less : tie.Need-loop-less Inv-loop μ-loop
+loop-less c = search needs
+
+loop-again : tie.Need-loop-again Inv-loop μ-loop
+loop-again c =
+    let l = c .before .before .before .before .before .before .loop in
+    let a = c .before .before .before .before .before .before .before .before .before .args in
+    (search needs, search needs, fed-more (stateOf (a .scan) (a .numbers .now)) (a .piece .now) (l .i) (omega arith) (l .inv .2) (c .before .before .take-byte .ensures))
+
+same-length : tie.Need-same-length Inv-loop μ-loop
 same-length c = search needs
 
--- src/lib.rt:19:1
-returns : tie.Need-returns
-unfolding stateOf run
-returns c = let e = c .before .before .feed .ensures in record { sane = record { inside = e .sane; long = e .sane .long }; is = rw (e .is) }
+returns : tie.Need-returns Inv-loop μ-loop
+returns c =
+    let l = c .before .loop in
+    let a = c .before .before .before .before .args in
+    fed-all (stateOf (a .scan) (a .numbers .now)) (a .piece .now) (l .i) (omega arith) (l .inv .2)
 
 pub feed-spec : {M : Type 1} → statement M
-feed-spec = tie.close (tie.spec feed-requires same-length returns)
+feed-spec =
+    tie.close
+    (tie.spec
+    Inv-loop
+    μ-loop
+    loop-holds
+    shared-slice-read-take-byte
+    take-byte-requires
+    add-i
+    loop-less
+    loop-again
+    same-length
+    returns)

@@ -1,0 +1,49 @@
+-- `is_wish` tests in the order of the definition.
+-- Assumes nothing.
+use mathlib.Core.Path.{sym, _∙_}
+use borrow.Author.Tests.{not-true, not-false}
+use Rattle.wish.proofs.AnswerLaws.{wish-open, wish-few, wish-rate, wish-flag}
+use borrow.Author.Needs.{needs}
+use Rattle.wish.proofs.is_wish.Statement.{statement}
+use Rattle.wish.proofs.is_wish.Tie as tie
+
+is-complete-requires : tie.Need-is-complete-requires
+is-complete-requires c κs = search needs
+
+returns : tie.Need-returns
+returns c =
+    let a = c .before .before .before .before .args in
+    wish-open (a .scan) (a .numbers .now) (sym (c .before .is-complete .ensures) ∙ not-true _ (c .if1 .taken))
+
+returns-2 : tie.Need-returns-2
+returns-2 c =
+    let a = c .before .before .before .before .before .before .args in
+    wish-few (a .scan) (a .numbers .now) (sym (c .before .before .before .is-complete .ensures) ∙ not-false _ (c .before .before .if1 .left)) (c .if2 .taken)
+
+shared-slice-read-if3 : tie.Need-shared-slice-read-if3
+shared-slice-read-if3 c = search needs
+
+returns-3 : tie.Need-returns-3
+returns-3 c =
+    let a = c .before .before .before .before .before .before .before .before .args in
+    wish-rate (a .scan) (a .numbers .now) (sym (c .before .before .before .before .before .is-complete .ensures) ∙ not-false _ (c .before .before .before .before .if1 .left)) (c .before .before .if2 .left) (c .if3 .taken)
+
+shared-slice-read-result : tie.Need-shared-slice-read-result
+shared-slice-read-result c = search needs
+
+returns-4 : tie.Need-returns-4
+returns-4 c =
+    let a = c .before .before .before .before .before .before .before .before .before .args in
+    wish-flag (a .scan) (a .numbers .now) (sym (c .before .before .before .before .before .before .is-complete .ensures) ∙ not-false _ (c .before .before .before .before .before .if1 .left)) (c .before .before .before .if2 .left) (c .before .if3 .left)
+
+pub is-wish-spec : {M : Type 1} → statement M
+is-wish-spec =
+    tie.close
+    (tie.spec
+    is-complete-requires
+    returns
+    returns-2
+    shared-slice-read-if3
+    returns-3
+    shared-slice-read-result
+    returns-4)

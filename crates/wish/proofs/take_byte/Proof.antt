@@ -1,0 +1,29 @@
+-- `take_byte` hands a byte to the numbers or to the payload.
+-- Assumes nothing.
+use Rattle.wish.proofs.ScanLaws.{step-worded, holds-headed}
+use borrow.Author.Needs.{needs}
+use Rattle.wish.proofs.take_byte.Statement.{statement}
+use Rattle.wish.proofs.take_byte.Tie as tie
+
+take-byte-requires : tie.Need-take-byte-requires
+take-byte-requires c κs = search needs
+
+same-length : tie.Need-same-length
+same-length c = search needs
+
+returns : tie.Need-returns
+returns c = holds-headed _ (c .before .before .before .before .before .before .before .before .pre) (c .before .before .before .before .if1 .taken) (c .before .before .take-byte .ensures)
+
+take-payload-requires : tie.Need-take-payload-requires
+take-payload-requires c κs = search needs
+
+same-length-2 : tie.Need-same-length-2
+same-length-2 c = search needs
+
+returns-2 : tie.Need-returns-2
+returns-2 c = rw (step-worded _ (c .before .before .before .before .before .before .before .before .pre) (c .before .before .before .before .if1 .left)) (c .before .before .take-payload .ensures)
+
+pub take-byte-spec : {M : Type 1} → statement M
+take-byte-spec =
+    tie.close
+    (tie.spec take-byte-requires same-length returns take-payload-requires same-length-2 returns-2)
