@@ -204,7 +204,14 @@ fn take_part(day: Day, chunk: &[u8], at: usize, end: usize, numbers: &mut [u16])
 }
 
 // Takes the chunk from at on up to a line end, and answers the piece that ends there, or all that is left.
-fn take_piece(day: Day, chunk: &[u8], at: usize, numbers: &mut [u16], out: &mut [u8], used: usize) -> Step
+fn take_piece(
+    day: Day,
+    chunk: &[u8],
+    at: usize,
+    numbers: &mut [u16],
+    out: &mut [u8],
+    used: usize,
+) -> Step
     requires { ⌜ SanePiece (day .piece) (now numbers) × (at < length (now chunk)) × (used + 17600 ≤ length (now out)) ⌝ }
     ensures { λ r. ⌜ Went (pointOf day (now (numbers .entry))) (now (chunk .entry)) at (r .at) used (r .used) (r .day) (now (numbers .exit)) (now (out .entry)) (now (out .exit)) × (at < r .at) ⌝ }
 {

@@ -4,7 +4,9 @@ use libc::STDOUT_FILENO;
 use system::Asked;
 
 fn help() {
-    system::write_all(STDOUT_FILENO, b"\
+    system::write_all(
+        STDOUT_FILENO,
+        b"\
 lora_lines < captures > answers
 
 Reads LoRa frames, one a line: SF, low rate (0 or 1), then the symbols, in decimal, with spaces between. Symbol numbers
@@ -13,7 +15,8 @@ count from 0. Each line is answered by one line, in order:
   no NUMBER PLACE                                  docs/REFUSALS.md says what each number means
 The last line on standard error is 'end TEXTS CLEAN REPAIRED REFUSED' if all was read and written, and else says what
 broke the run off.
-");
+",
+    );
 }
 
 fn main() {

@@ -106,7 +106,9 @@ fn run() {
 }
 
 fn help() {
-    system::write_all(STDOUT_FILENO, b"\
+    system::write_all(
+        STDOUT_FILENO,
+        b"\
 lora_read < frame
 
 Reads one LoRa frame: SF, low rate (0 or 1), then the symbols, in decimal, with spaces or line ends between. Symbol numbers
@@ -114,7 +116,8 @@ count from 0. It prints one line:
   ok LENGTH CR CHECKSUM SYMBOLS REPAIRS PAYLOAD    payload in hex, - if empty
   no NUMBER PLACE                                  docs/REFUSALS.md says what each number means
 For a file with a frame on each line there is lora_lines.
-");
+",
+    );
 }
 
 fn main() {

@@ -195,7 +195,12 @@ fn is_help(word: &[u8]) -> bool {
     if word.len() != 6 {
         return false;
     }
-    word[0] == b'-' && word[1] == b'-' && word[2] == b'h' && word[3] == b'e' && word[4] == b'l' && word[5] == b'p'
+    word[0] == b'-'
+        && word[1] == b'-'
+        && word[2] == b'h'
+        && word[3] == b'e'
+        && word[4] == b'l'
+        && word[5] == b'p'
 }
 
 pub fn arguments() -> Asked {
