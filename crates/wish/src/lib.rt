@@ -243,7 +243,7 @@ fn is_wish(scan: Scan, numbers: &[u16]) -> bool
     numbers[3] <= 1
 }
 
-// The settings that the four numbers say.
+// The settings that the four numbers say; an SF or a CR that fits no byte becomes 255, which is neither.
 fn settings_of(numbers: &[u16]) -> Settings
     requires { ⌜ 4 ≤ length (now numbers) ⌝ }
     ensures { λ r. ⌜ r ≡ narrow (settingsBy (now (numbers .entry))) ⌝ }
