@@ -7,6 +7,8 @@ pub mod random;
 pub mod text;
 pub mod tuned;
 pub mod types;
+pub mod wish;
+pub mod words;
 
 #[cfg(linked)]
 pub mod abi;
