@@ -3,17 +3,14 @@
 
 pub mod cases;
 pub mod plain;
+#[cfg(feature = "linked")]
+pub mod product;
 pub mod random;
 pub mod text;
 pub mod tuned;
 pub mod types;
 pub mod wish;
 pub mod words;
-
-#[cfg(linked)]
-pub mod abi;
-#[cfg(linked)]
-pub mod safe;
 
 /// The most symbols a frame can have.
 pub const MOST_SYMBOLS: usize = 832;

@@ -2,7 +2,7 @@
 
 use reference::random::Random;
 use reference::types::{Code, Read, Settings};
-use reference::{plain, safe, tuned, MOST_BYTES, MOST_SYMBOLS};
+use reference::{plain, product, tuned, MOST_BYTES, MOST_SYMBOLS};
 use std::hint::black_box;
 use std::time::{Duration, Instant};
 
@@ -22,8 +22,8 @@ struct Implementation {
 
 const LIBRARY: Implementation = Implementation {
     name: "library",
-    code: safe::code,
-    read: safe::read,
+    code: product::code,
+    read: product::read,
 };
 const PLAIN: Implementation = Implementation {
     name: "plain",
