@@ -5,6 +5,7 @@ use chyvandra::ffi;
 use reference::random::Random;
 use reference::types::{Code, Header, Read, Refusal, Settings};
 use reference::{plain, product};
+use std::ptr;
 
 /// Cells on both sides of a lent array, which nobody may touch.
 const MARGIN: usize = 8;
@@ -140,6 +141,25 @@ fn header_fields(header: &Header) -> Vec<u64> {
     ]
 }
 
+/// A list's pointer as C may lend it: null where the list is empty. The wrapper's
+/// is never null, so both ways are compared.
+fn pointer<T>(list: &[T]) -> *const T {
+    if list.is_empty() {
+        ptr::null()
+    } else {
+        list.as_ptr()
+    }
+}
+
+/// The same for a list that may be written.
+fn pointer_mut<T>(list: &mut [T]) -> *mut T {
+    if list.is_empty() {
+        ptr::null_mut()
+    } else {
+        list.as_mut_ptr()
+    }
+}
+
 /// The library's answer through its C interface.
 fn bare(case: &Case, mut cells: Cells) -> (u8, Cells) {
     let Case {
@@ -154,15 +174,15 @@ fn bare(case: &Case, mut cells: Cells) -> (u8, Cells) {
     } = *case;
     let Settings { sf, cr, .. } = case.settings;
     let out = lent(&mut cells.symbols);
-    let (out, out_len) = (out.as_mut_ptr(), out.len());
+    let (out, out_len) = (pointer_mut(out), out.len());
     let bytes = lent(&mut cells.bytes);
-    let (bytes, bytes_len) = (bytes.as_mut_ptr(), bytes.len());
+    let (bytes, bytes_len) = (pointer_mut(bytes), bytes.len());
     let answer = lent(&mut cells.answer);
-    let (answer, answer_len) = (answer.as_mut_ptr(), answer.len());
-    let (payload, payload_len) = (payload.as_ptr(), payload.len());
-    let (symbols, symbols_len) = (symbols.as_ptr(), symbols.len());
-    // SAFETY: each pointer and length is those of one live slice, and the
-    // slices don't overlap.
+    let (answer, answer_len) = (pointer_mut(answer), answer.len());
+    let (payload, payload_len) = (pointer(payload), payload.len());
+    let (symbols, symbols_len) = (pointer(symbols), symbols.len());
+    // SAFETY: each pointer and length is those of one live slice, or null and 0,
+    // and the slices don't overlap.
     let returned = unsafe {
         match case.operation {
             Operation::Code => ffi::lora_code(
