@@ -14,7 +14,8 @@ fn main() -> Result<(), Refusal> {
     let count = code(&settings, &sent, &mut symbols)?;
     println!("sent {sent:02X?} in {count} symbols");
 
-    // The tenth symbol is in the second block: the first one has eight.
+    // The tenth symbol is in the second block: the first one has eight. It
+    // carries one bit of each codeword of its block, so several may need repair.
     symbols[9] ^= 0b101;
 
     let mut payload = [0; MOST_BYTES];

@@ -11,11 +11,11 @@
 //!
 //! # Safety
 //!
-//! The same holds for each function: a pointer is aligned and not null, even
-//! where the number is 0; its elements may be read, and those of `out` and
-//! `answer` written, until the call returns; and the lists of one call do not
-//! overlap. All other numbers may be anything. Any number of threads may call
-//! at once, each with lists of its own.
+//! The same holds for each function: a pointer is aligned, and not null unless
+//! the number is 0; its elements may be read, and those of `out` and `answer`
+//! written, until the call returns; and the lists of one call do not overlap.
+//! All other numbers may be anything. Any number of threads may call at once,
+//! each with lists of its own that no other thread writes.
 
 /// Returned where `answer` has too few cells.
 pub const ANSWER_SHORT: u8 = 255;

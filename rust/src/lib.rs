@@ -14,6 +14,9 @@
 //! Symbol numbers count from 0 at the preamble's chirp; a station that counts
 //! from 1 subtracts first.
 //!
+//! To build it, set `LORA_LIB_DIR` to the whole path of the folder that has
+//! `liblora_c.a` (x86-64 Linux).
+//!
 //! ```
 //! use chyvandra::{code, read, Settings, MOST_BYTES, MOST_SYMBOLS};
 //!
@@ -112,9 +115,11 @@ pub fn code(settings: &Settings, payload: &[u8], out: &mut [u16]) -> Result<usiz
 /// frame's own and how many codewords were repaired. Symbols after the frame's
 /// own are ignored.
 ///
-/// An acceptance counts for a frame that is read with its sender's own SF and
-/// low-rate setting. These are not in the frame, and a frame read with others
-/// may be accepted for what it is not.
+/// What accepted means: read with the sender's own SF and low-rate setting,
+/// which the frame does not carry, the symbols are a frame by the rules. It is
+/// the frame that was sent if at most one symbol was changed in each block, or
+/// two at 4/8: that is proved. With more changed, or with another SF or low-rate
+/// setting, a wrong payload may be accepted; the checksum and 4/8 make that rare.
 ///
 /// # Errors
 ///

@@ -7,7 +7,6 @@ mod settings;
 mod spoiled;
 
 use reference::random::Random;
-use sent::BYTES;
 use std::process::ExitCode;
 
 const SEED: u64 = 1;
@@ -19,10 +18,8 @@ fn main() -> ExitCode {
         eprintln!("usage: misread [SEED [COUNT]]");
         return ExitCode::from(2);
     };
-    println!(
-        "Seed {seed}; {count} frames a cell; payloads of {BYTES} random bytes; a changed symbol is"
-    );
-    println!("any other number below 2^SF.");
+    println!("Seed {seed}; {count} frames a cell, of random bytes. A cell is: right /");
+    println!("refused / accepted wrong.");
     let mut random = Random::new(seed);
     spoiled::print_tables(count, &mut random);
     settings::print_table(count, &mut random);

@@ -5,9 +5,6 @@ use reference::types::Settings;
 use reference::{product, MOST_BYTES, MOST_SYMBOLS};
 use std::fmt;
 
-/// The payload's bytes: as many as a gate's message has.
-pub const BYTES: usize = 6;
-
 /// A frame as it was sent.
 pub struct Sent {
     payload: Vec<u8>,
@@ -15,8 +12,9 @@ pub struct Sent {
 }
 
 impl Sent {
-    pub fn new(settings: &Settings, random: &mut Random) -> Sent {
-        let payload = random.bytes(BYTES);
+    /// A frame with a random payload of so many bytes.
+    pub fn new(settings: &Settings, length: usize, random: &mut Random) -> Sent {
+        let payload = random.bytes(length);
         let mut symbols = vec![0; MOST_SYMBOLS];
         let count = product::code(settings, &payload, &mut symbols).expect("a good frame");
         symbols.truncate(count);

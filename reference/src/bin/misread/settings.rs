@@ -5,6 +5,9 @@ use reference::cases::{self, any_symbol};
 use reference::random::Random;
 use reference::types::Settings;
 
+/// The most bytes of a payload. Their number is in the header, so it has to vary.
+const MOST: usize = 32;
+
 /// Symbols behind the frame, as a station hands over that can't tell its end.
 const FURTHER: usize = 40;
 
@@ -17,9 +20,9 @@ enum Mistake {
 
 /// The frames by code rate and checksum.
 pub fn print_table(count: usize, random: &mut Random) {
-    println!("\nUnharmed frames of every SF and low-rate setting, read with the other low-rate");
-    println!("setting or with another SF: the frame's own symbols alone, and followed by");
-    println!("{FURTHER} random ones. A cell is as above.\n");
+    println!("\nUnharmed frames of every SF and low-rate setting, 1 to {MOST} bytes, read with");
+    println!("the other low-rate setting or with another SF: the frame's own symbols");
+    println!("alone, and followed by {FURTHER} random ones.\n");
     println!("| rate | checksum | other low rate, alone | followed | other SF, alone | followed |");
     println!("|---|---|---|---|---|---|");
     for cr in 1..=4 {
@@ -52,7 +55,7 @@ fn tally(
             checksum,
             ..cases::settings(random.below(cases::SETTINGS))
         };
-        let sent = Sent::new(&settings, random);
+        let sent = Sent::new(&settings, 1 + random.below(MOST), random);
         let mut symbols = sent.symbols.clone();
         symbols.extend((0..further).map(|_| any_symbol(settings.sf, random)));
         let (sf, low) = match mistake {

@@ -5,6 +5,9 @@ use reference::cases;
 use reference::random::Random;
 use reference::types::Settings;
 
+/// The payload's bytes: as many as a gate's message has.
+const BYTES: usize = 6;
+
 const SPREADING: [u8; 3] = [7, 9, 12];
 
 /// Which blocks are spoiled.
@@ -39,9 +42,9 @@ pub fn print_tables(count: usize, random: &mut Random) {
 
 fn print_table(place: Where, count: usize, random: &mut Random) {
     let name = place.name();
-    println!("\nSo many symbols changed in {name}, low rate off. A cell is:");
-    println!("right / refused / accepted wrong. The last column is the fewest repairs of");
-    println!("a frame that was accepted wrong.\n");
+    println!("\nSo many symbols changed in {name}, each to any other number");
+    println!("below 2^SF; {BYTES} bytes, low rate off. The last column is the fewest repairs");
+    println!("of a frame that was accepted wrong.\n");
     print!("| rate | checksum | changed |");
     for sf in SPREADING {
         print!(" SF {sf} |");
@@ -87,7 +90,7 @@ fn tally(
 ) -> Tally {
     let mut tally = Tally::default();
     for _ in 0..count {
-        let sent = Sent::new(settings, random);
+        let sent = Sent::new(settings, BYTES, random);
         let mut symbols = sent.symbols.clone();
         for block in cases::blocks(&mut symbols, settings.cr).skip(place.unspoiled_blocks()) {
             spoil(block, changed, settings.sf, random);
