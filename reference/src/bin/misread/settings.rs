@@ -27,8 +27,9 @@ pub fn print_table(count: usize, random: &mut Random) {
     println!("|---|---|---|---|---|---|");
     for cr in 1..=4 {
         for checksum in [true, false] {
-            eprintln!("other settings, CR {cr}");
-            print!("| {} |", rate_cells(cr, checksum));
+            let rate = rate_cells(cr, checksum);
+            eprintln!("other settings: {rate}");
+            print!("| {rate} |");
             for mistake in [Mistake::LowRate, Mistake::Spreading] {
                 for further in [0, FURTHER] {
                     let cell = tally(cr, checksum, mistake, further, count, random);

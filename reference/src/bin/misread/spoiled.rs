@@ -52,8 +52,9 @@ fn print_table(place: Where, count: usize, random: &mut Random) {
     println!(" fewest |\n|---|---|---|---|---|---|---|");
     for cr in 1..=4 {
         for checksum in [true, false] {
+            let rate = rate_cells(cr, checksum);
             for changed in 1..=4 {
-                eprintln!("{name}, CR {cr}, {changed} changed");
+                eprintln!("{name}: {rate} | {changed}");
                 let cells = SPREADING.map(|sf| {
                     let settings = Settings {
                         sf,
@@ -63,7 +64,7 @@ fn print_table(place: Where, count: usize, random: &mut Random) {
                     };
                     tally(&settings, place, changed, count, random)
                 });
-                print_row(&rate_cells(cr, checksum), changed, &cells);
+                print_row(&rate, changed, &cells);
             }
         }
     }
