@@ -8,12 +8,12 @@
  * off, any other number for on.
  *
  * The functions keep no state and allocate nothing. Any number of threads may call them at once, each with lists of its
- * own that no other thread writes. A call needs at most 2,560 bytes of stack (measured: reference/run stack).
+ * own that no other thread writes. A call needs 2.5 KiB of stack (measured, not proved: reference/run stack).
  *
  * What accepted means: read with the sender's own SF and low-rate setting, which the frame does not carry, the symbols are
  * a frame by the rules. It is the frame that was sent if at most one symbol was changed in each block, or two at 4/8: that
- * is proved. With more changed, or with another SF or low-rate setting, a wrong payload may be accepted; the checksum and
- * 4/8 make that rare (measured: reference/run misread).
+ * is proved. With more changed, or with another SF or low-rate setting, a wrong payload may be accepted; it is rare where
+ * 4/8 and the checksum come together, and not otherwise (measured: reference/run misread).
  *
  * Ranges: SF 7 to 12, CR 1 to 4 (4/5 to 4/8), length 0 to 255, bandwidth 125, 250 or 500 kHz, preamble any 16-bit number.
  * The largest frame has 832 symbols, the longest payload 255 bytes.

@@ -119,7 +119,8 @@ pub fn code(settings: &Settings, payload: &[u8], out: &mut [u16]) -> Result<usiz
 /// which the frame does not carry, the symbols are a frame by the rules. It is
 /// the frame that was sent if at most one symbol was changed in each block, or
 /// two at 4/8: that is proved. With more changed, or with another SF or low-rate
-/// setting, a wrong payload may be accepted; the checksum and 4/8 make that rare.
+/// setting, a wrong payload may be accepted; it is rare where 4/8 and the
+/// checksum come together, and not otherwise.
 ///
 /// # Errors
 ///
