@@ -119,8 +119,8 @@ pub fn code(settings: &Settings, payload: &[u8], out: &mut [u16]) -> Result<usiz
 /// which the frame does not carry, the symbols are a frame by the rules. It is
 /// the frame that was sent if at most one symbol was changed in each block, or
 /// two at 4/8: that is proved. With more changed, or with another SF or low-rate
-/// setting, a wrong payload may be accepted; it is rare where 4/8 and the
-/// checksum come together, and not otherwise.
+/// setting, a wrong payload may be accepted: seldom with the checksum on at 4/5,
+/// 4/6 and 4/8, more often at 4/7 or with the checksum off.
 ///
 /// # Errors
 ///
