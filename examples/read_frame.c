@@ -1,22 +1,35 @@
-/* Reads the empty frame of SF 7 and prints what read answers. */
+/* Reads a frame with one symbol spoiled and prints the payload and how many codewords were repaired; then the same frame
+ * cut short, which is refused. */
 #include <inttypes.h>
 #include <stdio.h>
 
 #include "lora.h"
 
-int main(void)
+/* The payload 6F0074A6F401 at SF 9, CR 4 (4/8), checksum on. The tenth symbol was sent as 497. */
+static const uint16_t symbols[] = {412, 4,   480, 460, 224, 112, 28, 112, 60,  100, 279, 381,
+                                   120, 349, 416, 464, 0,   496, 263, 382, 127, 159, 160, 95};
+enum { SYMBOLS = sizeof symbols / sizeof symbols[0] };
+
+static uint8_t read_and_print(size_t count)
 {
-    const uint16_t symbols[] = {124, 48, 28, 0, 56, 28, 12, 0};
     uint8_t payload[LORA_MAX_PAYLOAD];
     uint64_t answer[LORA_READ_CELLS];
-    uint8_t refused = lora_read(7, 0, symbols, sizeof symbols / sizeof symbols[0],
-                                payload, sizeof payload, answer, LORA_READ_CELLS);
+    uint8_t number = lora_read(9, 0, symbols, count, payload, sizeof payload, answer, LORA_READ_CELLS);
+    size_t i;
 
-    if (refused) {
-        printf("refused: number %u, place %" PRIu64 "\n", (unsigned)refused, answer[0]);
-        return 1;
+    if (number != LORA_OK) {
+        printf("refused: %s (number %u, place %" PRIu64 ")\n", lora_meaning(number), (unsigned)number, answer[0]);
+        return number;
     }
-    printf("length %" PRIu64 ", CR %" PRIu64 ", flag %" PRIu64 ", symbols used %" PRIu64 ", repairs %" PRIu64 "\n",
-           answer[0], answer[1], answer[2], answer[3], answer[4]);
-    return 0;
+    printf("payload ");
+    for (i = 0; i < answer[0]; i++)
+        printf("%02X", payload[i]);
+    printf(", CR %" PRIu64 ", checksum %" PRIu64 ", symbols used %" PRIu64 ", repairs %" PRIu64 "\n",
+           answer[1], answer[2], answer[3], answer[4]);
+    return LORA_OK;
+}
+
+int main(void)
+{
+    return read_and_print(SYMBOLS) == LORA_OK && read_and_print(20) == LORA_FEW_SYMBOLS ? 0 : 1;
 }

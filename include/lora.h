@@ -1,8 +1,19 @@
 /* The digital half of a LoRa transceiver: payload bytes to symbol numbers, symbol numbers to payload, the header alone,
  * the symbol count, the time on air. Explicit header only. Link with liblora_c.a (x86-64 Linux).
  *
- * A list is lent as a pointer and its number of elements. The lists of one call do not overlap, and a pointer is aligned
- * and not null even where the number is 0. A flag (low, checksum) is 0 for off, any other number for on.
+ * Symbol numbers count from 0 at the preamble's chirp; a station that counts from 1 subtracts first.
+ *
+ * A list is lent as a pointer and its number of elements. The lists of one call do not overlap, and a pointer is aligned.
+ * Where the number is 0 the pointer may be NULL: nothing is read or written through it. A flag (low, checksum) is 0 for
+ * off, any other number for on.
+ *
+ * The functions keep no state and allocate nothing. Any number of threads may call them at once, each with lists of its
+ * own that no other thread writes. A call needs 2.5 KiB of stack (measured, not proved: reference/run stack).
+ *
+ * What accepted means: read with the sender's own SF and low-rate setting, which the frame does not carry, the symbols are
+ * a frame by the rules. It is the frame that was sent if at most one symbol was changed in each block, or two at 4/8: that
+ * is proved. With more changed, or with another SF or low-rate setting, a wrong payload may be accepted: seldom with the
+ * checksum on at 4/5, 4/6 and 4/8, more often at 4/7 or with the checksum off (measured: reference/run misread).
  *
  * Ranges: SF 7 to 12, CR 1 to 4 (4/5 to 4/8), length 0 to 255, bandwidth 125, 250 or 500 kHz, preamble any 16-bit number.
  * The largest frame has 832 symbols, the longest payload 255 bytes.
@@ -36,6 +47,11 @@
 #include <stddef.h>
 #include <stdint.h>
 
+#define LORA_VERSION_MAJOR 1
+#define LORA_VERSION_MINOR 1
+#define LORA_VERSION_PATCH 0
+#define LORA_VERSION "1.1.0"
+
 #ifdef __cplusplus
 extern "C" {
 #endif
@@ -57,6 +73,29 @@ enum {
     LORA_BAD_BANDWIDTH = 13,
     LORA_ANSWER_SHORT = 255
 };
+
+/* What a returned number means, in words. */
+static inline const char *lora_meaning(uint8_t number)
+{
+    switch (number) {
+    case LORA_OK: return "accepted";
+    case LORA_BAD_SF: return "SF not 7 to 12";
+    case LORA_BAD_CR: return "CR not 1 to 4";
+    case LORA_TOO_LONG: return "length above 255";
+    case LORA_OUT_SHORT: return "lent output too short";
+    case LORA_FEW_SYMBOLS: return "fewer symbols than needed";
+    case LORA_SYMBOL_OVER: return "a symbol is 2^SF or more";
+    case LORA_UNREADABLE: return "a codeword at 4/5, 4/6 or 4/8 can't be read";
+    case LORA_UNREADABLE_4_7: return "a codeword at 4/7 is over one bit from every codeword";
+    case LORA_HEADER_CHECK: return "header check bits wrong";
+    case LORA_HEADER_BIT: return "a header bit that must be 0 is 1";
+    case LORA_HEADER_CR: return "header CR is 0, 5, 6 or 7";
+    case LORA_CHECKSUM: return "payload checksum wrong";
+    case LORA_BAD_BANDWIDTH: return "bandwidth not 125, 250 or 500";
+    case LORA_ANSWER_SHORT: return "answer has too few cells";
+    default: return "no number of this library";
+    }
+}
 
 /* The sizes that are always enough, and the cells of `answer` that each function needs. */
 enum {

@@ -121,7 +121,8 @@ pub fn frame(kind: Kind, settings: &Settings, random: &mut Random) -> Frame {
     }
 }
 
-fn any_symbol(sf: u8, random: &mut Random) -> u16 {
+/// Any symbol number of this spreading factor.
+pub fn any_symbol(sf: u8, random: &mut Random) -> u16 {
     random.below(1 << sf) as u16
 }
 
@@ -152,14 +153,19 @@ fn change_one(nibbles: &mut [u8], random: &mut Random) {
 /// Changes at most 0 to 3 symbols in each block.
 fn change_symbols(symbols: &mut [u16], settings: &Settings, random: &mut Random) {
     let most = random.pick(&[0, 1, 1, 1, 2, 3]);
-    let (first, later) = symbols.split_at_mut(8);
     let width = usize::from(settings.cr) + 4;
-    for block in std::iter::once(first).chain(later.chunks_mut(width)) {
+    for block in blocks(symbols, settings.cr) {
         for _ in 0..random.below(most + 1) {
             let symbol = &mut block[random.below(width)];
             *symbol = changed(*symbol, settings.sf, random);
         }
     }
+}
+
+/// A frame's symbols, block by block.
+pub fn blocks(symbols: &mut [u16], cr: u8) -> impl Iterator<Item = &mut [u16]> {
+    let (first, later) = symbols.split_at_mut(8);
+    std::iter::once(first).chain(later.chunks_mut(usize::from(cr) + 4))
 }
 
 fn changed(symbol: u16, sf: u8, random: &mut Random) -> u16 {

@@ -3,15 +3,14 @@
 
 pub mod cases;
 pub mod plain;
+#[cfg(feature = "linked")]
+pub mod product;
 pub mod random;
 pub mod text;
 pub mod tuned;
 pub mod types;
-
-#[cfg(linked)]
-pub mod abi;
-#[cfg(linked)]
-pub mod safe;
+pub mod wish;
+pub mod words;
 
 /// The most symbols a frame can have.
 pub const MOST_SYMBOLS: usize = 832;

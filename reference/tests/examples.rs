@@ -1,8 +1,8 @@
-//! The examples of document 01, row by row, and those of its reading program.
+//! The examples of document 01, row by row, and those of the two programs.
 
 use reference::plain::{self, block, bytes, codeword::codeword, header};
-use reference::text::answer_line;
 use reference::types::{Header, Received, Refusal, Settings};
+use reference::{text, wish};
 
 const EMPTY: Settings = Settings {
     sf: 7,
@@ -35,6 +35,14 @@ fn read_with_first(symbols: &[u16]) -> Result<Received, Refusal> {
     let mut frame = EMPTY_FRAME;
     frame[..symbols.len()].copy_from_slice(symbols);
     plain::read(7, false, &frame, &mut [])
+}
+
+fn read(text: &str) -> String {
+    String::from_utf8(text::answer_line(text.as_bytes())).unwrap()
+}
+
+fn coded_line(wish: &str) -> String {
+    String::from_utf8(wish::answer_line(wish.as_bytes())).unwrap()
 }
 
 fn repairs_with_first(symbol: u16) -> usize {
@@ -193,12 +201,70 @@ fn reading_program() {
         ("7 0 124 48 28 0 56 28 12 0 70000", "no 14 0\n"),
     ];
     for (text, line) in rows {
-        assert_eq!(
-            String::from_utf8(answer_line(text.as_bytes())).unwrap(),
-            line,
-            "{text:?}"
-        );
+        assert_eq!(read(text), line, "{text:?}");
     }
     let text = "11 0 1692 648 348 160 400 1748 1124 1136 0 0 0 0 0";
-    assert_eq!(answer_line(text.as_bytes()), b"ok 2 1 1 13 0 0000\n");
+    assert_eq!(read(text), "ok 2 1 1 13 0 0000\n");
+}
+
+/// Accepted, and wrong: at 4/7 two symbols changed in a block can be taken for
+/// one, and the checksum of what comes out can be right. 6F0074A6F401 was sent.
+#[test]
+fn frame_taken_for_another() {
+    let text = "12 0 1564 520 3812 332 1944 80 1824 108 293 1113 3618 1104 4080 1299 404";
+    assert_eq!(read(text), "ok 6 3 1 15 7 6F0074A6F402\n");
+}
+
+#[test]
+fn coding_program() {
+    let empty = "7 0 124 48 28 0 56 28 12 0\n";
+    let two = "11 0 1692 648 348 160 400 1748 1124 1136 0 0 0 0 0\n";
+    let bytes = |how_many: usize| format!("7 1 4 1 {}", "aB".repeat(how_many));
+    let rows = [
+        ("7 0 1 0 -", empty),
+        ("  007  00000   1 0 - ", empty),
+        ("11 0 1 1 0000", two),
+        (&bytes(256), "no 3 0\n"),
+        (&bytes(65_536), "no 3 0\n"),
+        ("6 0 1 0 -", "no 1 0\n"),
+        ("263 0 1 0 -", "no 1 0\n"),
+        ("65535 0 9 0 -", "no 1 0\n"),
+        ("7 0 5 0 -", "no 2 0\n"),
+        ("7 0 258 0 -", "no 2 0\n"),
+        (&bytes(256).replacen('4', "0", 1), "no 2 0\n"),
+        (&bytes(256).replacen('7', "13", 1), "no 1 0\n"),
+        ("", "no 14 0\n"),
+        ("   ", "no 14 0\n"),
+        ("7 0 1 0", "no 14 0\n"),
+        ("7 0 1 0 - -", "no 14 0\n"),
+        ("7 2 1 0 -", "no 14 0\n"),
+        ("7 0 1 2 -", "no 14 0\n"),
+        ("6 2 9 0 -", "no 14 0\n"),
+        ("65536 0 1 0 -", "no 14 0\n"),
+        ("000007 0 1 0 -", "no 14 0\n"),
+        ("7 0 1 0 0", "no 14 0\n"),
+        ("7 0 1 0 000", "no 14 0\n"),
+        ("7 0 1 0 --", "no 14 0\n"),
+        ("7 0 1 0 -00", "no 14 0\n"),
+        ("7 0 1 0 0G", "no 14 0\n"),
+        ("7 0 - 0 00", "no 14 0\n"),
+        ("7 0 1 0 -\r", "no 14 0\n"),
+        ("7\t0 1 0 -", "no 14 0\n"),
+        (&(bytes(600) + "0"), "no 14 0\n"),
+        (&(bytes(600) + "0g"), "no 14 0\n"),
+    ];
+    for (line, answer) in rows {
+        assert_eq!(coded_line(line), answer, "{line:?}");
+    }
+}
+
+/// What the coding program prints is what the reading program takes.
+#[test]
+fn coded_lines_are_read() {
+    for (wish, line) in [
+        ("7 1 4 1 00fF80", "ok 3 4 1 24 0 00FF80\n"),
+        ("12 0 2 0 6F0074A6F401", "ok 6 2 0 14 0 6F0074A6F401\n"),
+    ] {
+        assert_eq!(read(&coded_line(wish)), line, "{wish:?}");
+    }
 }

@@ -1,19 +1,12 @@
 //! One operation of the product's library many times over, to be run under a
 //! profiler: `profile code|read SF CR BYTES TIMES`.
 
-#[cfg(not(linked))]
-fn main() -> std::process::ExitCode {
-    eprintln!("profile needs the product's library: set LORA_LIB_DIR to the folder of liblora_c.a");
-    std::process::ExitCode::from(2)
-}
+use reference::random::Random;
+use reference::types::Settings;
+use reference::{plain, product, MOST_BYTES, MOST_SYMBOLS};
+use std::hint::black_box;
 
-#[cfg(linked)]
 fn main() {
-    use reference::random::Random;
-    use reference::types::Settings;
-    use reference::{plain, safe, MOST_BYTES, MOST_SYMBOLS};
-    use std::hint::black_box;
-
     let words: Vec<String> = std::env::args().skip(1).collect();
     let [operation, numbers @ ..] = &words[..] else {
         panic!("profile code|read SF CR BYTES TIMES");
@@ -36,10 +29,12 @@ fn main() {
     for _ in 0..times {
         match operation.as_str() {
             "code" => {
-                black_box(safe::code(&settings, &payload, black_box(&mut symbols)).unwrap());
+                black_box(product::code(&settings, &payload, black_box(&mut symbols)).unwrap());
             }
             "read" => {
-                black_box(safe::read(settings.sf, false, &frame, black_box(&mut bytes)).unwrap());
+                black_box(
+                    product::read(settings.sf, false, &frame, black_box(&mut bytes)).unwrap(),
+                );
             }
             _ => panic!("profile code|read SF CR BYTES TIMES"),
         }

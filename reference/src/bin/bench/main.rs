@@ -1,16 +1,7 @@
 //! How fast the product's library is, next to `plain` and `tuned`.
 
-#[cfg(linked)]
 mod measure;
 
-#[cfg(not(linked))]
-fn main() -> std::process::ExitCode {
-    eprintln!("bench needs the product's library: set LORA_LIB_DIR to the folder of liblora_c.a,");
-    eprintln!("then: cargo run --release --bin bench");
-    std::process::ExitCode::from(2)
-}
-
-#[cfg(linked)]
 fn main() {
     println!("machine: {}", machine());
     measure::compare_implementations();
@@ -19,7 +10,6 @@ fn main() {
 }
 
 /// The kind of machine that the times are of.
-#[cfg(linked)]
 fn machine() -> String {
     use std::env::consts::{ARCH, OS};
     let information = std::fs::read_to_string("/proc/cpuinfo").unwrap_or_default();

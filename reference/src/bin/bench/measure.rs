@@ -2,7 +2,7 @@
 
 use reference::random::Random;
 use reference::types::{Code, Read, Settings};
-use reference::{plain, safe, tuned, MOST_BYTES, MOST_SYMBOLS};
+use reference::{plain, product, tuned, MOST_BYTES, MOST_SYMBOLS};
 use std::hint::black_box;
 use std::time::{Duration, Instant};
 
@@ -22,8 +22,8 @@ struct Implementation {
 
 const LIBRARY: Implementation = Implementation {
     name: "library",
-    code: safe::code,
-    read: safe::read,
+    code: product::code,
+    read: product::read,
 };
 const PLAIN: Implementation = Implementation {
     name: "plain",
@@ -120,10 +120,9 @@ pub fn compare_implementations() {
         for (sf, length, cr) in frames() {
             let trial = Trial::new(sf, cr, length);
             let count = trial.symbols.len();
-            print!(
-                "{} {sf:>2} {length:>5} {cr:>2} {count:>7}",
-                operation.name()
-            );
+            let name = operation.name();
+            eprintln!("timing {name}, SF {sf}, {length} bytes, CR {cr}");
+            print!("{name} {sf:>2} {length:>5} {cr:>2} {count:>7}");
             let mut seconds = [f64::INFINITY; 3];
             for _ in 0..ROUNDS {
                 for (best, each) in seconds.iter_mut().zip(&implementations) {
@@ -148,6 +147,7 @@ pub fn show_linearity() {
     println!("library at SF 7, CR 4: ns/symbol");
     println!("bytes symbols    code    read");
     for length in [1, 16, 64, 128, 255] {
+        eprintln!("timing {length} bytes");
         let trial = Trial::new(7, 4, length);
         let [code, read] = [Operation::Code, Operation::Read].map(|operation| {
             let rounds = (0..ROUNDS).map(|_| trial.seconds(&LIBRARY, operation));

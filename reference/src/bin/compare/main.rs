@@ -1,23 +1,15 @@
 //! Holds the product's library against `plain`: `compare [SEED [COUNT]]`.
 
-#[cfg(linked)]
 mod case;
-#[cfg(linked)]
 mod outcome;
 
-#[cfg(not(linked))]
-fn main() -> std::process::ExitCode {
-    eprintln!(
-        "compare needs the product's library: set LORA_LIB_DIR to the folder of liblora_c.a,"
-    );
-    eprintln!("then: cargo run --release --bin compare -- [SEED [COUNT]]");
-    std::process::ExitCode::from(2)
-}
+use reference::random::Random;
+use std::process::ExitCode;
 
-#[cfg(linked)]
-fn main() -> std::process::ExitCode {
-    use std::process::ExitCode;
+/// So many inputs go by between two signs of work.
+const STEP: u64 = 100_000;
 
+fn main() -> ExitCode {
     let arguments: Option<Vec<u64>> = std::env::args()
         .skip(1)
         .map(|word| word.parse().ok())
@@ -32,9 +24,12 @@ fn main() -> std::process::ExitCode {
         }
     };
     println!("seed {seed}");
-    let mut random = reference::random::Random::new(seed);
+    let mut random = Random::new(seed);
     let mut differed = 0;
-    for _ in 0..count {
+    for done in 0..count {
+        if done > 0 && done % STEP == 0 {
+            eprintln!("compared {done} of {count}");
+        }
         let case = case::Case::new(&mut random);
         let Some(difference) = outcome::difference(&case, &mut random) else {
             continue;

@@ -1,9 +1,11 @@
 //! What an operation answers and leaves behind in every cell around it.
 
 use crate::case::{Case, Operation};
+use chyvandra::ffi;
 use reference::random::Random;
 use reference::types::{Code, Header, Read, Refusal, Settings};
-use reference::{abi, plain, safe};
+use reference::{plain, product};
+use std::ptr;
 
 /// Cells on both sides of a lent array, which nobody may touch.
 const MARGIN: usize = 8;
@@ -54,25 +56,25 @@ const PLAIN: Operations = Operations {
     airtime: plain::airtime,
 };
 
-const SAFE: Operations = Operations {
-    code: safe::code,
-    read: safe::read,
-    head: safe::head,
-    count: safe::count,
-    airtime: safe::airtime,
+const PRODUCT: Operations = Operations {
+    code: product::code,
+    read: product::read,
+    head: product::head,
+    count: product::count,
+    airtime: product::airtime,
 };
 
-/// Where the library, bare or through `safe`, differs from `plain`, if it does.
+/// Where the library, bare or through its wrapper, differs from `plain`, if it does.
 pub fn difference(case: &Case, random: &mut Random) -> Option<String> {
     let before = Cells::new(case, random);
     let wanted = told(&PLAIN, case, before.clone());
     let (payload, symbols) = (case.payload.clone(), case.symbols.clone());
     let library = bare(case, before.clone());
-    let through_safe = told(&SAFE, case, before.clone());
+    let wrapped = told(&PRODUCT, case, before.clone());
     if (&payload, &symbols) != (&case.payload, &case.symbols) {
         return Some("the library changed its input".to_string());
     }
-    for (name, got) in [("library", library), ("safe", through_safe)] {
+    for (name, got) in [("library", library), ("wrapper", wrapped)] {
         if got != wanted {
             return Some(format!(
                 "before {before:?}\nplain  {wanted:?}\n{name} {got:?}"
@@ -92,12 +94,12 @@ fn told(operations: &Operations, case: &Case, mut cells: Cells) -> (u8, Cells) {
         ..
     } = *case;
     let needs = match case.operation {
-        Operation::Code | Operation::Count | Operation::Airtime => abi::NUMBER_CELLS,
-        Operation::Head => abi::HEAD_CELLS,
-        Operation::Read => abi::READ_CELLS,
+        Operation::Code | Operation::Count | Operation::Airtime => ffi::NUMBER_CELLS,
+        Operation::Head => ffi::HEAD_CELLS,
+        Operation::Read => ffi::READ_CELLS,
     };
     if case.answer_len < needs {
-        return (abi::SHORT_ANSWER, cells);
+        return (ffi::ANSWER_SHORT, cells);
     }
     let result = match case.operation {
         Operation::Code => (operations.code)(&settings, &case.payload, lent(&mut cells.symbols))
@@ -139,6 +141,25 @@ fn header_fields(header: &Header) -> Vec<u64> {
     ]
 }
 
+/// A list's pointer as C may lend it: null where the list is empty. The wrapper's
+/// is never null, so both ways are compared.
+fn pointer<T>(list: &[T]) -> *const T {
+    if list.is_empty() {
+        ptr::null()
+    } else {
+        list.as_ptr()
+    }
+}
+
+/// The same for a list that may be written.
+fn pointer_mut<T>(list: &mut [T]) -> *mut T {
+    if list.is_empty() {
+        ptr::null_mut()
+    } else {
+        list.as_mut_ptr()
+    }
+}
+
 /// The library's answer through its C interface.
 fn bare(case: &Case, mut cells: Cells) -> (u8, Cells) {
     let Case {
@@ -153,18 +174,18 @@ fn bare(case: &Case, mut cells: Cells) -> (u8, Cells) {
     } = *case;
     let Settings { sf, cr, .. } = case.settings;
     let out = lent(&mut cells.symbols);
-    let (out, out_len) = (out.as_mut_ptr(), out.len());
+    let (out, out_len) = (pointer_mut(out), out.len());
     let bytes = lent(&mut cells.bytes);
-    let (bytes, bytes_len) = (bytes.as_mut_ptr(), bytes.len());
+    let (bytes, bytes_len) = (pointer_mut(bytes), bytes.len());
     let answer = lent(&mut cells.answer);
-    let (answer, answer_len) = (answer.as_mut_ptr(), answer.len());
-    let (payload, payload_len) = (payload.as_ptr(), payload.len());
-    let (symbols, symbols_len) = (symbols.as_ptr(), symbols.len());
-    // SAFETY: each pointer and length is those of one live slice, and the
-    // slices don't overlap.
+    let (answer, answer_len) = (pointer_mut(answer), answer.len());
+    let (payload, payload_len) = (pointer(payload), payload.len());
+    let (symbols, symbols_len) = (pointer(symbols), symbols.len());
+    // SAFETY: each pointer and length is those of one live slice, or null and 0,
+    // and the slices don't overlap.
     let returned = unsafe {
         match case.operation {
-            Operation::Code => abi::lora_code(
+            Operation::Code => ffi::lora_code(
                 sf,
                 low,
                 cr,
@@ -176,7 +197,7 @@ fn bare(case: &Case, mut cells: Cells) -> (u8, Cells) {
                 answer,
                 answer_len,
             ),
-            Operation::Read => abi::lora_read(
+            Operation::Read => ffi::lora_read(
                 sf,
                 low,
                 symbols,
@@ -186,9 +207,9 @@ fn bare(case: &Case, mut cells: Cells) -> (u8, Cells) {
                 answer,
                 answer_len,
             ),
-            Operation::Head => abi::lora_head(sf, symbols, symbols_len, answer, answer_len),
-            Operation::Count => abi::lora_count(sf, low, cr, checksum, length, answer, answer_len),
-            Operation::Airtime => abi::lora_airtime(
+            Operation::Head => ffi::lora_head(sf, symbols, symbols_len, answer, answer_len),
+            Operation::Count => ffi::lora_count(sf, low, cr, checksum, length, answer, answer_len),
+            Operation::Airtime => ffi::lora_airtime(
                 sf, low, cr, checksum, length, khz, preamble, answer, answer_len,
             ),
         }

@@ -1,0 +1,56 @@
+//! How often each outcome came.
+
+use std::collections::BTreeMap;
+use std::fmt;
+
+#[derive(Clone, Copy, PartialEq, Eq, PartialOrd, Ord)]
+pub enum Outcome {
+    Refused(u8),
+    Accepted,
+    /// Read, with repairs.
+    Repaired,
+}
+
+impl fmt::Display for Outcome {
+    fn fmt(&self, f: &mut fmt::Formatter) -> fmt::Result {
+        match self {
+            Outcome::Refused(number) => write!(f, "refusal {number}"),
+            Outcome::Accepted => write!(f, "acceptance"),
+            Outcome::Repaired => write!(f, "acceptance with repairs"),
+        }
+    }
+}
+
+#[derive(Default)]
+pub struct Tally(BTreeMap<Outcome, usize>);
+
+impl Tally {
+    pub fn add(&mut self, answer: &[u8]) {
+        *self.0.entry(outcome(answer)).or_default() += 1;
+    }
+
+    pub fn print(&self) {
+        for (outcome, times) in &self.0 {
+            println!("{outcome}: {times}");
+        }
+    }
+
+    pub fn missing(&self, wanted: &[Outcome]) -> Vec<String> {
+        wanted
+            .iter()
+            .filter(|outcome| !self.0.contains_key(outcome))
+            .map(Outcome::to_string)
+            .collect()
+    }
+}
+
+/// What an answer's line says.
+fn outcome(answer: &[u8]) -> Outcome {
+    let line = String::from_utf8_lossy(answer);
+    let fields: Vec<&str> = line.split_ascii_whitespace().collect();
+    match fields[..] {
+        ["no", number, _] => Outcome::Refused(number.parse().unwrap()),
+        ["ok", _, _, _, _, repairs, _] if repairs != "0" => Outcome::Repaired,
+        _ => Outcome::Accepted,
+    }
+}

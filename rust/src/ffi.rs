@@ -1,0 +1,95 @@
+//! The C interface of the static library, as `include/lora.h` has it. The
+//! functions at the top of this crate are safe and do all that these do.
+//!
+//! A list is a pointer and then its number of elements. A flag (`low`,
+//! `checksum`) is 0 for off, any other number for on.
+//!
+//! Each function returns 0 for an acceptance, with the values told at the
+//! function in `answer`; 1 to 13 for a refusal, with its place in `answer[0]`
+//! and nothing else written; [`ANSWER_SHORT`] where `answer` has too few cells,
+//! with nothing written. Cells that are not named stay as they were.
+//!
+//! # Safety
+//!
+//! The same holds for each function: a pointer is aligned, and not null unless
+//! the number is 0; its elements may be read, and those of `out` and `answer`
+//! written, until the call returns; and the lists of one call do not overlap.
+//! All other numbers may be anything. Any number of threads may call at once,
+//! each with lists of its own that no other thread writes.
+
+/// Returned where `answer` has too few cells.
+pub const ANSWER_SHORT: u8 = 255;
+
+/// Cells of `answer` that count, airtime and code need.
+pub const NUMBER_CELLS: usize = 1;
+/// Cells of `answer` that head needs: length, CR, checksum flag.
+pub const HEAD_CELLS: usize = 3;
+/// Cells of `answer` that read needs: length, CR, checksum flag, symbols used,
+/// codewords repaired.
+pub const READ_CELLS: usize = 5;
+
+extern "C" {
+    /// Answers the number of symbols in `answer[0]`. Checks 1, 2, 3.
+    pub fn lora_count(
+        sf: u8,
+        low: u8,
+        cr: u8,
+        checksum: u8,
+        length: usize,
+        answer: *mut u64,
+        answer_len: usize,
+    ) -> u8;
+
+    /// Answers the time on air in microseconds in `answer[0]`. Checks 1, 2, 3,
+    /// 13.
+    pub fn lora_airtime(
+        sf: u8,
+        low: u8,
+        cr: u8,
+        checksum: u8,
+        length: usize,
+        khz: u16,
+        preamble: u16,
+        answer: *mut u64,
+        answer_len: usize,
+    ) -> u8;
+
+    /// Writes the symbols from `out[0]` on and answers their number in
+    /// `answer[0]`. Checks 1, 2, 3, 4.
+    pub fn lora_code(
+        sf: u8,
+        low: u8,
+        cr: u8,
+        checksum: u8,
+        payload: *const u8,
+        payload_len: usize,
+        out: *mut u16,
+        out_len: usize,
+        answer: *mut u64,
+        answer_len: usize,
+    ) -> u8;
+
+    /// Answers length, CR and checksum flag (0 or 1) in `answer[0]` to
+    /// `answer[2]`. Checks 1, 5, 6, 7, 9, 10, 11.
+    pub fn lora_head(
+        sf: u8,
+        symbols: *const u16,
+        symbols_len: usize,
+        answer: *mut u64,
+        answer_len: usize,
+    ) -> u8;
+
+    /// Writes the payload from `out[0]` on and answers length, CR, checksum flag
+    /// (0 or 1), symbols used and codewords repaired in `answer[0]` to
+    /// `answer[4]`. Checks what head checks, then 4, 5, 6, 7 and 8, 12.
+    pub fn lora_read(
+        sf: u8,
+        low: u8,
+        symbols: *const u16,
+        symbols_len: usize,
+        out: *mut u8,
+        out_len: usize,
+        answer: *mut u64,
+        answer_len: usize,
+    ) -> u8;
+}

@@ -1,0 +1,113 @@
+//! What is handed back instead of a result.
+
+use std::error::Error;
+use std::fmt;
+
+/// Why an operation was refused. The number of each kind is its value, as in
+/// `RefusalKind::Checksum as u8`.
+#[derive(Clone, Copy, Debug, PartialEq, Eq, Hash)]
+#[repr(u8)]
+pub enum RefusalKind {
+    /// 1: SF not 7 to 12.
+    BadSf = 1,
+    /// 2: CR not 1 to 4.
+    BadCr = 2,
+    /// 3: length above 255.
+    TooLong = 3,
+    /// 4: the lent output is too short. The place is the cells needed.
+    OutShort = 4,
+    /// 5: fewer symbols than needed. The place is the symbols needed.
+    FewSymbols = 5,
+    /// 6: a symbol is 2^SF or more. The place is its index.
+    SymbolOver = 6,
+    /// 7: a codeword at 4/5, 4/6 or 4/8 can't be read. The place is its number
+    /// in the frame.
+    Unreadable = 7,
+    /// 8: a codeword at 4/7 is over one bit from every codeword. The place is
+    /// its number in the frame.
+    Unreadable47 = 8,
+    /// 9: the header's check bits are wrong.
+    HeaderCheck = 9,
+    /// 10: a header bit that must be 0 is 1.
+    HeaderBit = 10,
+    /// 11: the header's CR is 0, 5, 6 or 7.
+    HeaderCr = 11,
+    /// 12: the payload's checksum is wrong.
+    Checksum = 12,
+    /// 13: bandwidth not 125, 250 or 500.
+    BadBandwidth = 13,
+}
+
+use RefusalKind::*;
+
+/// The kinds in the order of their numbers, from 1 on.
+const KINDS: [RefusalKind; 13] = [
+    BadSf,
+    BadCr,
+    TooLong,
+    OutShort,
+    FewSymbols,
+    SymbolOver,
+    Unreadable,
+    Unreadable47,
+    HeaderCheck,
+    HeaderBit,
+    HeaderCr,
+    Checksum,
+    BadBandwidth,
+];
+
+impl RefusalKind {
+    /// The kind with this number, if there is one.
+    pub fn from_number(number: u8) -> Option<RefusalKind> {
+        KINDS.get(usize::from(number).checked_sub(1)?).copied()
+    }
+
+    /// What the number means, in words.
+    pub fn meaning(self) -> &'static str {
+        match self {
+            BadSf => "SF not 7 to 12",
+            BadCr => "CR not 1 to 4",
+            TooLong => "length above 255",
+            OutShort => "lent output too short",
+            FewSymbols => "fewer symbols than needed",
+            SymbolOver => "a symbol is 2^SF or more",
+            Unreadable => "a codeword at 4/5, 4/6 or 4/8 can't be read",
+            Unreadable47 => "a codeword at 4/7 is over one bit from every codeword",
+            HeaderCheck => "header check bits wrong",
+            HeaderBit => "a header bit that must be 0 is 1",
+            HeaderCr => "header CR is 0, 5, 6 or 7",
+            Checksum => "payload checksum wrong",
+            BadBandwidth => "bandwidth not 125, 250 or 500",
+        }
+    }
+}
+
+/// A refusal: why, and where. Nothing was written.
+#[derive(Clone, Copy, Debug, PartialEq, Eq, Hash)]
+pub struct Refusal {
+    /// Why.
+    pub kind: RefusalKind,
+    /// Where, as told at the kind; 0 for a kind that tells of no place.
+    pub place: usize,
+}
+
+impl Refusal {
+    /// The refusal's number, 1 to 13.
+    pub fn number(&self) -> u8 {
+        self.kind as u8
+    }
+}
+
+impl fmt::Display for Refusal {
+    fn fmt(&self, f: &mut fmt::Formatter) -> fmt::Result {
+        let (number, place) = (self.number(), self.place);
+        write!(
+            f,
+            "{} (refusal {number}, place {place})",
+            self.kind.meaning()
+        )
+    }
+}
+
+impl Error for Refusal {}
