@@ -47,6 +47,11 @@ fn error() -> usize {
     if number >= 0 { number as usize } else { 0 }
 }
 
+// The same for a call that has answered so: one that did nothing and did not fail set no number.
+fn failure(got: isize) -> usize {
+    if got < 0 { error() } else { 0 }
+}
+
 // Whether the call before is to be tried again: it would have waited, or a signal interrupted it.
 fn again(number: usize) -> bool {
     number == 11 || number == 4
@@ -96,7 +101,9 @@ fn write_from(fd: i32, bytes: &[u8], done: usize) -> Try
             error: 0,
         };
     }
-    let more = io::count(libc::write(fd, &bytes[done..]), &bytes[done..]);
+    let rest = &bytes[done..];
+    let got = libc::write(fd, rest);
+    let more = io::count(got, rest);
     if more > 0 {
         return Try {
             done: done + more,
@@ -104,7 +111,7 @@ fn write_from(fd: i32, bytes: &[u8], done: usize) -> Try
             error: 0,
         };
     }
-    let number = error();
+    let number = failure(got);
     if again(number) {
         pause();
         return Try {
@@ -148,38 +155,73 @@ pub fn say(words: &[u8]) {
     write_all(STDERR_FILENO, words);
 }
 
-// A number in decimal.
-fn say_number(n: usize) {
-    let mut digits = [0u8; 20];
-    let k = io::decimal(n as u64, &mut digits);
-    say(&digits[..k]);
+// Puts words into a line from a place on, as far as there is room, and answers the next place.
+fn put(line: &mut [u8], at: usize, words: &[u8]) -> usize
+    requires { ⌜ at ≤ length (now line) ⌝ }
+    ensures { λ r. ⌜ r ≤ length (now (line .exit)) ⌝ }
+{
+    let mut next = at;
+    let mut i = 0;
+    while i < words.len() {
+        if next >= line.len() {
+            return next;
+        }
+        line[next] = words[i];
+        next += 1;
+        i += 1;
+    }
+    next
 }
 
-// The line for a write that failed: the whole answers before it were written.
+// Puts a number in decimal.
+fn put_number(line: &mut [u8], at: usize, n: usize) -> usize
+    requires { ⌜ at ≤ length (now line) ⌝ }
+    ensures { λ r. ⌜ r ≤ length (now (line .exit)) ⌝ }
+{
+    let mut digits = [0u8; 20];
+    let k = io::decimal(n as u64, &mut digits);
+    put(line, at, &digits[..k])
+}
+
+// The first n bytes of a line.
+fn say_first(line: &[u8], n: usize)
+    requires { ⌜ n ≤ length (now line) ⌝ }
+{
+    say(&line[..n]);
+}
+
+// The line for a write that failed: the whole answers before it were written. A line goes out in one write, so that it stays
+// whole where programs share a standard error.
 pub fn say_unwritten(error: usize, answers: usize) {
-    say(b"broken off: writing failed (error ");
-    say_number(error);
-    say(b"), ");
-    say_number(answers);
-    say(b" whole answers written\n");
+    let mut line = [0u8; 128];
+    let mut n = put(&mut line, 0, b"broken off: writing failed (error ");
+    n = put_number(&mut line, n, error);
+    n = put(&mut line, n, b"), ");
+    n = put_number(&mut line, n, answers);
+    n = put(&mut line, n, b" whole answers written\n");
+    say_first(&line, n);
 }
 
 // The line for a read that failed, where one text is all the input.
 pub fn say_failed(error: usize) {
-    say(b"reading failed (error ");
-    say_number(error);
-    say(b")\n");
+    let mut line = [0u8; 128];
+    let mut n = put(&mut line, 0, b"reading failed (error ");
+    n = put_number(&mut line, n, error);
+    n = put(&mut line, n, b")\n");
+    say_first(&line, n);
 }
 
 // The line for a read that failed: the line that it cut short has no answer.
 pub fn say_unread(error: usize, answers: usize) {
-    say(b"broken off: reading failed in line ");
-    say_number(next(answers));
-    say(b" (error ");
-    say_number(error);
-    say(b"), ");
-    say_number(answers);
-    say(b" whole answers written\n");
+    let mut line = [0u8; 128];
+    let mut n = put(&mut line, 0, b"broken off: reading failed in line ");
+    n = put_number(&mut line, n, next(answers));
+    n = put(&mut line, n, b" (error ");
+    n = put_number(&mut line, n, error);
+    n = put(&mut line, n, b"), ");
+    n = put_number(&mut line, n, answers);
+    n = put(&mut line, n, b" whole answers written\n");
+    say_first(&line, n);
 }
 
 // The line behind so many.
