@@ -1,25 +1,22 @@
 -- Laws of what the turns hand on.
 -- Assumes nothing.
-use mathlib.Core.Path.{_≡_, refl, ap, _∙_}
+use mathlib.Core.Path.{_≡_, refl, _∙_}
 use mathlib.Core.List.{List, [], _++_}
-use Prim.Native.Nat.{ℕ, _+_, _≤_}
+use Prim.Native.Nat.{ℕ, _≤_}
 use native.Mathlib.Omega.{arith}
-use lib.Dec.{eqb}
 use lib.ListN.{length, take}
-use lib.Seq.{take-append-seam, length-take-le}
+use lib.Seq.{take-append-seam}
 use Rattle.line.specs.Put.{Put}
-use Rattle.lines.specs.Stream.{Point, run, pointOf, Stands, Went, part}
-use Rattle.lines.specs.declared.Counts.{Counts}
+use Rattle.lines.specs.Stream.{Point, run, pointOf, Stands, part}
 use Rattle.lines.specs.declared.Day.{Day}
 use Rattle.lines.proofs.Parts.{part-on, part-all}
 use Rattle.lines.proofs.StreamLaws.{run-append}
-use Rattle.system.specs.declared.Sent.{Sent}
 use Rattle.system.specs.Calls.{chunkOf}
 use Rattle.system.specs.declared.Got.{Got}
 use Rattle.system.specs.declared.Got.the-variants.{Bytes, End, Failed}
-use Rattle.filter.specs.Turns.{OnChunk, Follows}
+use Rattle.filter.specs.Turns.{Follows}
 use Rattle.filter.specs.declared.Turn.{Turn}
-use Rattle.filter.specs.declared.Turn.the-variants.{More, Ended, Unread, Unwritten}
+use Rattle.filter.specs.declared.Turn.the-variants.{More, Ended}
 
 -- what was put at the front
 pub put-used : {at r : ℕ} {l d e : List ℕ} → Put at l d e r → r ≤ length e

@@ -1,16 +1,13 @@
 -- What the turns of the loop hand on: the chunk that a read left is taken whole, and its answers go to the system as they are.
 -- Assumes nothing.
-use mathlib.Core.Bool.{Bool}
 use mathlib.Core.List.{List}
 use mathlib.Core.Path.{_≡_}
-use Prim.Native.Nat.{ℕ, _≤_}
-use lib.Dec.{eqb}
+use Prim.Native.Nat.{ℕ}
 use lib.ListN.{take, length}
 use Rattle.lines.specs.Counts.{closingLine}
-use Rattle.lines.specs.Stream.{Point, run, said, ended, lastSaid, Stands, Went, part}
+use Rattle.lines.specs.Stream.{Point, run, Stands}
 use Rattle.lines.specs.declared.Counts.{Counts}
 use Rattle.lines.specs.declared.Day.{Day}
-use Rattle.line.specs.Put.{Put}
 use Rattle.system.specs.Calls.{Handed}
 use Rattle.system.specs.declared.Got.{Got}
 use Rattle.system.specs.declared.Got.the-variants.{Bytes, End, Failed}

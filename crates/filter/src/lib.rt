@@ -5,7 +5,6 @@ ghost use mathlib.Core.List.{List};
 ghost use Prim.Native.Nat.{ℕ, _≤_, _<_};
 ghost use lib.ListN.{length};
 ghost use Rattle.line.specs.Put.{Put};
-ghost use Rattle.lines.specs.Counts.{closingLine};
 ghost use Rattle.lines.specs.Stream.{ended, lastSaid, pointOf, SanePiece, Went};
 ghost use Rattle.system.specs.Calls.{Within, Handed};
 ghost use Rattle.filter.specs.Turns.{OnChunk, Follows, Finished, Closing};

@@ -1,22 +1,19 @@
 -- In whatever chunks an input comes, its answers are those of the whole input, and so are its counts.
 -- Assumes nothing.
-use mathlib.Core.Path.{_≡_, refl, sym, ap, _∙_}
+use mathlib.Core.Path.{_≡_, refl, ap, _∙_}
 use mathlib.Core.Bool.{Bool, true, false}
 use mathlib.Core.List.{List, [], _∷_, _++_, append-assoc, append-nil}
 use Prim.Native.Nat.{ℕ}
 use lib.Dec.{eqb}
 use Rattle.bits.specs.Pick.{pick}
-use Rattle.line.specs.declared.Outcome.{Outcome}
 use Rattle.text.specs.Text as text
-use Rattle.text.specs.Scan as text-scan
-use Rattle.wish.specs.Scan as wish-scan
 use Rattle.text.proofs.AnswerLaws.{answers-text, outcome-text}
 use Rattle.wish.proofs.AnswerLaws.{answers-wish, outcome-wish}
 use Rattle.lines.specs.Counts.{none, counted}
 use Rattle.lines.specs.Lines.{Job, frames, wishes, piecesFrom, pieces, lineTo, outcomeTo, linesTo, countsFrom, outputOf, countsOf}
-use Rattle.lines.specs.Stream.{At, startOf, jobOf, runAt, lineAt, outcomeAt, Point, begin, next, on, run, said, ended, lastSaid}
+use Rattle.lines.specs.Stream.{startOf, jobOf, runAt, lineAt, outcomeAt, Point, begin, next, on, run, said, runIn, saidIn, joined, ended, lastSaid}
 use Rattle.lines.specs.declared.Counts.{Counts}
-use Rattle.lines.proofs.StreamLaws.{runAt-none, runAt-append, job-runAt}
+use Rattle.lines.proofs.StreamLaws.{runAt-none, runAt-append, run-append, said-append}
 
 -- the line and the outcome of a piece whose bytes were taken
 line-is : (job : Job) (bytes : List ℕ) → lineAt (runAt (startOf job) bytes) ≡ lineTo job bytes
@@ -99,12 +96,29 @@ begins : (job : Job) → begin job ≡ point job [] none
 unfolding begin point some
 begins job = rw (runAt-none (startOf job))
 
--- what is said of an input from its beginning on, and at its end, is its output
-pub output-whole : (job : Job) (input : List ℕ) → said (begin job) input ++ lastSaid (run (begin job) input) ≡ outputOf job input
+output-whole : (job : Job) (input : List ℕ) → said (begin job) input ++ lastSaid (run (begin job) input) ≡ outputOf job input
 unfolding outputOf pieces
 output-whole job input = rw (begins job) (whole-lines job input [] none)
 
--- and the counts at its end are its counts
-pub counts-whole : (job : Job) (input : List ℕ) → ended (run (begin job) input) .counts ≡ countsOf job input
+counts-whole : (job : Job) (input : List ℕ) → ended (run (begin job) input) .counts ≡ countsOf job input
 unfolding countsOf pieces
 counts-whole job input = rw (begins job) (whole-counts job input [] none)
+
+-- chunks, one after the other, are their input
+run-chunks : (p : Point) (chunks : List (List ℕ)) → runIn p chunks ≡ run p (joined chunks)
+unfolding runIn joined run
+run-chunks p [] = refl
+run-chunks p (chunk ∷ chunks) = run-chunks (run p chunk) chunks ∙ run-append p chunk (joined chunks)
+
+said-chunks : (p : Point) (chunks : List (List ℕ)) → saidIn p chunks ≡ said p (joined chunks)
+unfolding saidIn joined said
+said-chunks p [] = refl
+said-chunks p (chunk ∷ chunks) = ap (λ (l : List ℕ). said p chunk ++ l) (said-chunks (run p chunk) chunks) ∙ said-append p chunk (joined chunks)
+
+-- In whatever chunks an input comes, what is said of them from the beginning on, and at the end, is its output.
+pub output-in-chunks : (job : Job) (chunks : List (List ℕ)) → saidIn (begin job) chunks ++ lastSaid (runIn (begin job) chunks) ≡ outputOf job (joined chunks)
+output-in-chunks job chunks = rw (said-chunks (begin job) chunks, run-chunks (begin job) chunks) (output-whole job (joined chunks))
+
+-- And the counts at the end are its counts.
+pub counts-in-chunks : (job : Job) (chunks : List (List ℕ)) → ended (runIn (begin job) chunks) .counts ≡ countsOf job (joined chunks)
+counts-in-chunks job chunks = rw (run-chunks (begin job) chunks) (counts-whole job (joined chunks))

@@ -1,14 +1,13 @@
 -- Laws of an input that is taken in chunks.
 -- Assumes nothing.
 use mathlib.Core.Path.{_≡_, refl, sym, ap, _∙_}
-use mathlib.Core.Bool.{Bool, true, false, not}
+use mathlib.Core.Bool.{Bool, true, false}
 use mathlib.Core.List.{List, [], _∷_, _++_, append-assoc, append-nil}
-use Prim.Native.Nat.{ℕ, suc, _+_, _-_, _<_, _≤_}
+use Prim.Native.Nat.{ℕ, _+_, _<_, _≤_}
 use native.Mathlib.Omega.{arith}
-use borrow.Author.Tests.{eq-eqb, ne-eqb}
 use lib.Dec.{eqb}
-use lib.ListN.{length, getD}
-use Rattle.bits.specs.Pick.{pick, both}
+use lib.ListN.{length}
+use Rattle.bits.specs.Pick.{pick}
 use Rattle.line.specs.Put.{Put}
 use Rattle.line.proofs.Puts.{put-none, put-on}
 use Rattle.text.specs.Scan as text
@@ -20,7 +19,7 @@ use Rattle.text.proofs.TextLaws as text-laws
 use Rattle.wish.proofs.ScanLaws as wish-laws
 use Rattle.line.specs.declared.Outcome.{Outcome}
 use Rattle.lines.specs.Counts.{none, counted}
-use Rattle.lines.specs.Lines.{Job, frames, wishes}
+use Rattle.lines.specs.Lines.{Job}
 use Rattle.lines.specs.Stream.{At, frameAt, wishAt, startOf, jobOf, runAt, lineAt, outcomeAt, Point, begin, next, on, run, said, ended, lastSaid, pointOf, atOf, SanePiece, PieceHolds, Stands, part, clear, Ends, TookPart, Went}
 use Rattle.lines.specs.declared.Counts.{Counts}
 use Rattle.lines.specs.declared.Day.{Day}
@@ -37,10 +36,6 @@ runAt-none (wishAt s) = refl
 pub runAt-append : (a : At) (xs ys : List ℕ) → runAt (runAt a xs) ys ≡ runAt a (xs ++ ys)
 runAt-append (frameAt s) xs ys = ap frameAt (text-laws.run-append s xs ys)
 runAt-append (wishAt s) xs ys = ap wishAt (wish-laws.run-append s xs ys)
-
-pub job-runAt : (a : At) (xs : List ℕ) → jobOf (runAt a xs) ≡ jobOf a
-job-runAt (frameAt s) xs = refl
-job-runAt (wishAt s) xs = refl
 
 -- bytes in two parts
 pub run-append : (p : Point) (xs ys : List ℕ) → run (run p xs) ys ≡ run p (xs ++ ys)

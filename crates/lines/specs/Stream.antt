@@ -3,7 +3,7 @@
 use mathlib.Core.Bool.{Bool, true, false, not}
 use mathlib.Core.List.{List, [], _∷_, _++_}
 use mathlib.Core.Path.{_≡_}
-use Prim.Native.Nat.{ℕ, _+_, _-_, _≤_, _<_}
+use Prim.Native.Nat.{ℕ, _-_, _≤_, _<_}
 use lib.Dec.{eqb}
 use lib.ListN.{length, take, drop, getD}
 use Rattle.bits.specs.Pick.{pick, both}
@@ -69,6 +69,20 @@ run p (b ∷ bs) = run (pick (eqb b 10) (next p) (on p b)) bs
 unfoldable pub said : Point → List ℕ → List ℕ
 said p [] = []
 said p (b ∷ bs) = pick (eqb b 10) (lineAt (p .piece)) [] ++ said (pick (eqb b 10) (next p) (on p b)) bs
+
+-- the same chunk after chunk
+unfoldable pub runIn : Point → List (List ℕ) → Point
+runIn p [] = p
+runIn p (chunk ∷ chunks) = runIn (run p chunk) chunks
+
+unfoldable pub saidIn : Point → List (List ℕ) → List ℕ
+saidIn p [] = []
+saidIn p (chunk ∷ chunks) = said p chunk ++ saidIn (run p chunk) chunks
+
+-- the input that came in these chunks
+unfoldable pub joined : List (List ℕ) → List ℕ
+joined [] = []
+joined (chunk ∷ chunks) = chunk ++ joined chunks
 
 -- the end of the input: a last piece that is not empty is answered too
 unfoldable pub ended : Point → Point

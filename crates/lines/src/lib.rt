@@ -1,11 +1,10 @@
 // The answers to an input, handed out while it comes in chunks of any size.
 ghost use mathlib.Core.Path.{_≡_};
-ghost use mathlib.Core.List.{List, [], _∷_, _++_};
+ghost use mathlib.Core.List.{List};
 ghost use Prim.Native.Nat.{ℕ, _+_, _≤_, _<_};
 ghost use lib.Dec.{eqb};
 ghost use lib.ListN.{length};
 ghost use Rattle.bits.specs.Bit.{asBit};
-ghost use Rattle.line.specs.Line.{field};
 ghost use Rattle.line.specs.Outcome.{Answered};
 ghost use Rattle.line.specs.Put.{Put};
 ghost use Rattle.lines.specs.Counts.{none, more, counted, closingLine};

@@ -12,9 +12,9 @@ use Rattle.system.specs.declared.Got.{Got}
 use Rattle.system.specs.declared.Got.the-variants.{Bytes, End, Failed}
 use Rattle.text.specs.Scan.{State, run, stateOf, Holds}
 use Rattle.text.specs.declared.Scan.{Scan}
-use Rattle.lora_read.specs.Turns.{OnBytes, Follows}
+use Rattle.lora_read.specs.Turns.{Follows}
 use Rattle.lora_read.specs.declared.Turn.{Turn}
-use Rattle.lora_read.specs.declared.Turn.the-variants.{More, Ended, Unread}
+use Rattle.lora_read.specs.declared.Turn.the-variants.{More, Ended}
 
 -- what follows a read: the text goes on with the bytes that it left, or it has ended where it stood
 pub follows-more : (got : Got) {turn : Turn} {scan next : Scan} {s : State} {buffer numbers : List ℕ} → Follows got turn scan s buffer numbers → turn ≡ More next

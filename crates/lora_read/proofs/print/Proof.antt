@@ -1,7 +1,6 @@
 -- `print` hands the whole line over.
 -- Assumes nothing.
 use mathlib.Core.Path.{sym}
-use native.Mathlib.Omega.{arith}
 use lib.Seq.{length-take-le}
 use Rattle.lora_read.proofs.TurnLaws.{front}
 use borrow.Author.Needs.{needs}
