@@ -1,6 +1,6 @@
 -- `answer_got` takes exactly the bytes that the read left.
 -- Assumes nothing.
-use mathlib.Core.Path.{refl, sym}
+use mathlib.Core.Path.{refl}
 use lib.Seq.{length-take-le}
 use Rattle.lines.proofs.StreamLaws.{stands-here}
 use borrow.Author.Needs.{needs}
@@ -11,7 +11,7 @@ enum-known-got : tie.Need-enum-known-got
 enum-known-got c = search needs
 
 slice-aggregate-answer-chunk : tie.Need-slice-aggregate-answer-chunk
-slice-aggregate-answer-chunk c = sym (length-take-le _ _ (rw (c .before .before .got .given .1) at (c .before .before .before .before .before .before .before .pre .0)))
+slice-aggregate-answer-chunk c = let h = rw (c .before .before .got .given .1) at (c .before .before .before .before .before .before .before .pre .0) in search (needs, length-take-le)
 
 answer-chunk-requires : tie.Need-answer-chunk-requires
 answer-chunk-requires c κs = search needs

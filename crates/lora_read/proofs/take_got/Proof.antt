@@ -1,6 +1,6 @@
 -- `take_got` takes exactly the bytes that the read left.
 -- Assumes nothing.
-use mathlib.Core.Path.{refl, sym}
+use mathlib.Core.Path.{refl}
 use lib.Seq.{length-take-le}
 use Rattle.text.proofs.ScanLaws.{holds-here}
 use borrow.Author.Needs.{needs}
@@ -11,7 +11,7 @@ enum-known-got : tie.Need-enum-known-got
 enum-known-got c = search needs
 
 slice-aggregate-feed : tie.Need-slice-aggregate-feed
-slice-aggregate-feed c = sym (length-take-le _ _ (rw (c .before .before .got .given .1) at (c .before .before .before .before .before .before .pre .0)))
+slice-aggregate-feed c = let h = rw (c .before .before .got .given .1) at (c .before .before .before .before .before .before .pre .0) in search (needs, length-take-le)
 
 feed-requires : tie.Need-feed-requires
 feed-requires c κs = search needs
