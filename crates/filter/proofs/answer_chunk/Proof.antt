@@ -6,7 +6,7 @@ use Prim.Native.Nat.{_≤_, _-_}
 use lib.ListN.{length}
 use Rattle.lines.specs.Stream.{run, pointOf, part, Stands}
 use Rattle.lines.proofs.StreamLaws.{went-none}
-use Rattle.filter.proofs.TurnLaws.{put-used, stands-part, stands-all}
+use Rattle.filter.proofs.TurnLaws.{stands-part, stands-all}
 use borrow.Author.Needs.{needs}
 use Rattle.filter.proofs.answer_chunk.Statement.{statement}
 use Rattle.filter.proofs.answer_chunk.Tie as tie
@@ -27,7 +27,9 @@ answer-part-requires : tie.Need-answer-part-requires Inv-loop μ-loop
 answer-part-requires c κs = let i = c .before .before .before .before .loop .inv in (i .0 .sane, c .before .before .before .loop-test .taken, i .2)
 
 whole-requires : tie.Need-whole-requires Inv-loop μ-loop
-whole-requires c κs = let e = c .before .before .before .before .before .before .before .before .answer-part .ensures in omega (arith, put-used (e .0 .put), e .2 .some)
+whole-requires c κs =
+    let e = c .before .before .before .before .before .before .before .before .answer-part .ensures in
+    omega (arith, e .0 .put .next, e .0 .put .within, e .0 .put .long, e .2 .some)
 
 same-length : tie.Need-same-length Inv-loop μ-loop
 same-length c = search needs
