@@ -8,7 +8,7 @@
  * off, any other number for on.
  *
  * The functions keep no state and allocate nothing. Any number of threads may call them at once, each with lists of its
- * own that no other thread writes. A call needs 2.5 KiB of stack (measured, not proved: reference/run stack).
+ * own that no other thread writes. A call needs 2.6 KiB of stack (measured, not proved: reference/run stack).
  *
  * What accepted means: read with the sender's own SF and low-rate setting, which the frame does not carry, the symbols are
  * a frame by the rules. It is the frame that was sent if at most one symbol was changed in each block, or two at 4/8: that
@@ -32,7 +32,7 @@
  *   LORA_FEW_SYMBOLS       5   fewer symbols than needed                                symbols needed
  *   LORA_SYMBOL_OVER       6   a symbol is 2^SF or more                                 its index
  *   LORA_UNREADABLE        7   a codeword at 4/5, 4/6 or 4/8 can't be read              its number in the frame
- *   LORA_UNREADABLE_4_7    8   a codeword at 4/7 is over one bit from every codeword    its number in the frame
+ *   LORA_UNREADABLE_4_7    8   never given (a codeword at 4/7 that can't be read)       its number in the frame
  *   LORA_HEADER_CHECK      9   header check bits wrong                                  0
  *   LORA_HEADER_BIT       10   a header bit that must be 0 is 1                         0
  *   LORA_HEADER_CR        11   header CR is 0, 5, 6 or 7                                0

@@ -1,13 +1,16 @@
--- Numbers assembled from bits, and lists from functions.
+-- Laws of the bits of a number, and of the number that has given bits.
 -- Assumes nothing.
 use mathlib.Core.Path.{_≡_, refl, sym, ap, ap₂, _∙_}
+use mathlib.Core.Bool.{Bool}
 use Prim.Native.Nat.{ℕ, zero, suc, _+_, _-_, _*_, _/_, _%_, _^_, _≤_, _<_, suc-le-suc}
-use native.Mathlib.Nat.{not-suc-le-zero, le-of-suc-le-suc, zero-lt-suc, mod-lt, pow-suc, div-add-mod', mul-assoc, zero-add, lt-of-lt-of-le, add-mod-mod, mul-add-mod-self-right, add-mod-right, mod-eq-of-lt}
-use native.Mathlib.Numerals.{one-add}
+use native.Mathlib.Nat.{not-suc-le-zero, le-of-suc-le-suc, zero-lt-suc, mod-lt, mod-eq-of-lt, div-one, div-eq-of-lt, pow-suc, zero-add, lt-of-lt-of-le}
+use native.Mathlib.Numerals.{one-add, add-one}
 use native.Mathlib.Omega.{arith}
-use lib.Pow.{shr-shr, pow-mono}
-use lib.Arith.{lt-one}
-use Rattle.bits.specs.Bit.{bit, number}
+use lib.Pow.{shr-shr, pow-mono, mod-pow-add, low}
+use lib.Bits.{bitXor, xor-step, xor-shr}
+use Rattle.bits.specs.Bit.{bit, number, isSet, asBit}
+use Rattle.bits.proofs.Searches.{asBit-le}
+use Rattle.bits.proofs.Xor.{differ-mod}
 
 pub half-pow : (w k : ℕ) → w / 2 ^ suc k ≡ w / 2 / 2 ^ k
 half-pow w k = ap (λ (x : ℕ). w / 2 ^ x) (sym (one-add k)) ∙ sym (shr-shr w 1 k)
@@ -29,13 +32,16 @@ unfolding number
 number-lt zero f b = omega arith
 number-lt (suc n) f b = rw pow-suc (omega (arith, b 0, number-lt n (λ i. f (suc i)) (λ i. b (suc i))))
 
-pub number-bit : (n w : ℕ) → w < 2 ^ n → number n (λ k. bit k w) ≡ w
+-- the lowest n bits of a number
+pub number-mod : (n w : ℕ) → number n (λ k. bit k w) ≡ w % 2 ^ n
 unfolding bit number
-number-bit zero w h = sym (lt-one h)
-number-bit (suc n) w h =
-    let below : w / 2 < 2 ^ n = omega (arith, rw pow-suc at h) in
-    let ih : number n (λ k. w / 2 / 2 ^ k % 2) ≡ w / 2 = number-bit n (w / 2) below in
-    simp (half-pow, ih) (omega arith)
+number-mod zero w = omega arith
+number-mod (suc n) w =
+    let ih : number n (λ k. w / 2 / 2 ^ k % 2) ≡ w / 2 % 2 ^ n = number-mod n (w / 2) in
+    simp (half-pow, ih, div-one) (sym (rw add-one at (mod-pow-add w n 1)))
+
+pub number-bit : (n w : ℕ) → w < 2 ^ n → number n (λ k. bit k w) ≡ w
+number-bit n w h = number-mod n w ∙ mod-eq-of-lt h
 
 pub number-cong : (n : ℕ) (f g : ℕ → ℕ) → ((k : ℕ) → k < n → f k ≡ g k) → number n f ≡ number n g
 unfolding number
@@ -46,19 +52,6 @@ number-cong (suc n) f g e =
 -- two numbers below 2 ^ n with the same bits
 pub same-bits : (n a b : ℕ) → a < 2 ^ n → b < 2 ^ n → ((k : ℕ) → k < n → bit k a ≡ bit k b) → a ≡ b
 same-bits n a b ha hb e = sym (number-bit n a ha) ∙ number-cong n _ _ e ∙ number-bit n b hb
-
--- the row that a diagonal's place came from
-pub turn : (N i j : ℕ) → i < N → (j + (i + N - j % N) % N) % N ≡ i
-turn N i j h =
-    let low : j % N < N = mod-lt j (omega arith) in
-    let sum : j + (i + N - j % N) ≡ j / N * N + (i + N) = omega (arith, div-add-mod' j N) in
-    add-mod-mod j (i + N - j % N) N ∙ ap (λ (x : ℕ). x % N) sum ∙ mul-add-mod-self-right (j / N) N (i + N) ∙ add-mod-right i N ∙ mod-eq-of-lt h
-
--- one bit more, at the top: how a loop that counts upwards builds the number
-pub number-top : (n : ℕ) (f : ℕ → ℕ) → number (suc n) f ≡ number n f + f n * 2 ^ n
-unfolding number
-number-top zero f = omega arith
-number-top (suc n) f = rw (number-top n (λ i. f (suc i)), pow-suc, ← mul-assoc) (omega arith)
 
 -- one bit more, at the bottom: how a loop whose k falls from n to 0 builds the number
 module _ (f : ℕ → ℕ) where
@@ -80,3 +73,52 @@ module _ (f : ℕ → ℕ) where
 
   pub number-small : (n m : ℕ) → n ≤ m → ((k : ℕ) → f k < 2) → number n f < 2 ^ m
   number-small n m h b = lt-of-lt-of-le (number-lt n f b) (pow-mono h)
+
+-- a number has no bits above its own
+pub bit-above : (n w k : ℕ) → n ≤ k → w < 2 ^ n → bit k w ≡ 0
+unfolding bit
+bit-above n w k h l = rw (div-eq-of-lt (lt-of-lt-of-le l (pow-mono h)))
+
+-- a bit of a number moved k places down
+pub bit-down : (i k w : ℕ) → bit i (w / 2 ^ k) ≡ bit (k + i) w
+unfolding bit
+bit-down i k w = ap (λ (x : ℕ). x % 2) (shr-shr w k i)
+
+-- n bits of a number from bit k on
+pub number-field : (n k w : ℕ) → number n (λ i. bit (k + i) w) ≡ w / 2 ^ k % 2 ^ n
+number-field n k w = number-cong n _ _ (λ i h. sym (bit-down i k w)) ∙ number-mod n (w / 2 ^ k)
+
+-- a bits, and b bits above them
+pub number-add : (a b : ℕ) (f : ℕ → ℕ) → number (a + b) f ≡ number b (λ i. f (a + i)) * 2 ^ a + number a f
+unfolding number
+number-add zero b f =
+    let z : 0 + b ≡ b = omega arith in
+    rw z (number-cong b _ _ (λ i h. ap f (sym (zero-add i))) ∙ omega arith)
+number-add (suc a) b f =
+    let s : suc a + b ≡ suc (a + b) = omega arith in
+    let t : number b (λ i. f (suc (a + i))) ≡ number b (λ i. f (suc a + i)) = number-cong b _ _ (λ i h. ap f (omega arith)) in
+    rw (s, number-add a b (λ i. f (suc i)), t, pow-suc) (omega arith)
+
+-- of more bits the lowest n
+pub number-cut : (n m : ℕ) (f : ℕ → ℕ) → n ≤ m → ((k : ℕ) → f k < 2) → number m f % 2 ^ n ≡ number n f
+number-cut n m f h b =
+    let s : n + (m - n) ≡ m = omega arith in
+    ap (λ (x : ℕ). x % 2 ^ n) (rw s at (number-add n (m - n) f)) ∙ low _ n (number-lt n f b)
+
+-- a bit of an XOR
+pub bit-xor : (k a b : ℕ) → bit k (bitXor a b) ≡ (bit k a + bit k b) % 2
+unfolding bit
+bit-xor k a b =
+    let x : ℕ = a / 2 ^ k in
+    let y : ℕ = b / 2 ^ k in
+    let d = differ-mod (x % 2) (y % 2) (omega arith) (omega arith) in
+    rw (xor-shr a b k) (omega (arith, xor-step x y, d))
+
+-- a truth value as a bit, and a bit back from its truth value
+pub asBit-lt : (b : Bool) → asBit b < 2
+asBit-lt b = suc-le-suc (asBit-le b)
+
+pub asBit-isSet : (b : ℕ) → b < 2 → asBit (isSet b) ≡ b
+asBit-isSet zero h = refl
+asBit-isSet (suc zero) h = refl
+asBit-isSet (suc (suc b)) h = absurd (omega arith)

@@ -7,7 +7,7 @@ use native.Mathlib.Omega.{arith}
 use lib.ListN.{length, getD, set, length-set}
 use lib.Seq.{set-getD}
 use Rattle.bits.specs.Tab.{over, overAt}
-use Rattle.bits.proofs.Tabs.{over-none, over-more, getD-over-rest, overAt-none, overAt-more, overAt-on, length-over, length-overAt, over-on}
+use Rattle.bits.proofs.Tabs.{over-none, over-more, getD-over-rest, overAt-none, overAt-more, overAt-on, overAt-cong, length-over, length-overAt, over-on}
 
 -- l is d with its first n cells by the rule f
 pub record Filled {A : Type 0} (f : ℕ → A) (d : List A) (n : ℕ) (l : List A) : Type 0 where
@@ -64,3 +64,7 @@ module _ {A : Type 0} where
 
   pub filledAt-end : {f : ℕ → A} {d : List A} {at m n : ℕ} {l : List A} → FilledAt f d at m l → m ≡ n → l ≡ overAt at n f d
   filledAt-end {f} {d} p e = rw e at (p .is)
+
+  -- by another rule that agrees with it
+  pub filledAt-as : {f g : ℕ → A} {d : List A} {at m n : ℕ} {l : List A} → FilledAt f d at m l → m ≡ n → ((i : ℕ) → i < n → f i ≡ g i) → l ≡ overAt at n g d
+  filledAt-as {f} {g} {d} {at} {m} {n} p e h = filledAt-end p e ∙ overAt-cong at n f g d h

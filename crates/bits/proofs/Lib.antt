@@ -1,7 +1,10 @@
 pub mod Bits
 pub mod Every
 pub mod Fill
+pub mod Lists
 pub mod Placed
 pub mod Searches
 pub mod Tabs
+pub mod Truth
+pub mod Turns
 pub mod Xor

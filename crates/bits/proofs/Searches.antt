@@ -1,14 +1,15 @@
 -- Laws of searches and counts.
 -- Assumes nothing.
 use mathlib.Core.Path.{_≡_, refl, sym, ap, _∙_}
-use mathlib.Core.Bool.{Bool, true, false}
+use mathlib.Core.Bool.{Bool, true, false, cond}
 use Prim.Native.Nat.{ℕ, zero, suc, _+_, _-_, _<_, _≤_}
 use native.Mathlib.Nat.{add-zero, add-suc}
 use native.Mathlib.Numerals.{add-one}
 use native.Mathlib.Omega.{arith}
 use native.Mathlib.Decide.{ℕ-discrete}
+use lib.Dec.{leb}
+use borrow.Author.Tests.{leb-true, leb-false, le-leb, lt-leb}
 use Rattle.bits.specs.Bit.{asBit}
-use Rattle.bits.specs.Pick.{pick}
 use Rattle.bits.specs.Search.{first, howMany}
 
 module _ (p : ℕ → Bool) where
@@ -31,7 +32,7 @@ module _ (p : ℕ → Bool) where
       let s : e - i ≡ 0 = omega arith in
       rw s
 
-  step-le : (b : Bool) (n i r : ℕ) → i + 1 ≤ r → r ≤ i + 1 + n → (i ≤ pick b i r) × (pick b i r ≤ i + suc n)
+  step-le : (b : Bool) (n i r : ℕ) → i + 1 ≤ r → r ≤ i + 1 + n → (i ≤ cond b i r) × (cond b i r ≤ i + suc n)
   step-le true n i r h l = omega arith
   step-le false n i r h l = omega arith
 
@@ -47,8 +48,8 @@ module _ (p : ℕ → Bool) where
   first-found zero i h = absurd (omega arith)
   first-found (suc n) i h = go (p i) refl h (first-found n (i + 1))
     where
-      go : (b : Bool) → p i ≡ b → pick b i (first p n (i + 1)) < i + suc n
-          → (first p n (i + 1) < i + 1 + n → p (first p n (i + 1)) ≡ true) → p (pick b i (first p n (i + 1))) ≡ true
+      go : (b : Bool) → p i ≡ b → cond b i (first p n (i + 1)) < i + suc n
+          → (first p n (i + 1) < i + 1 + n → p (first p n (i + 1)) ≡ true) → p (cond b i (first p n (i + 1))) ≡ true
       go true e l later = e
       go false e l later = later (omega arith)
 
@@ -57,7 +58,7 @@ module _ (p : ℕ → Bool) where
   first-before zero i k h l = absurd (omega arith)
   first-before (suc n) i k h l = go (p i) refl l (ℕ-discrete k i) (first-before n (i + 1) k)
     where
-      go : (b : Bool) → p i ≡ b → k < pick b i (first p n (i + 1)) → Dec (k ≡ i) → (i + 1 ≤ k → k < first p n (i + 1) → p k ≡ false) → p k ≡ false
+      go : (b : Bool) → p i ≡ b → k < cond b i (first p n (i + 1)) → Dec (k ≡ i) → (i + 1 ≤ k → k < first p n (i + 1) → p k ≡ false) → p k ≡ false
       go true e m d later = absurd (omega arith)
       go false e m (yes q) later = ap p q ∙ e
       go false e m (no q) later = later (omega arith) m
@@ -68,7 +69,7 @@ module _ (p : ℕ → Bool) where
   first-is zero i k h l t f = absurd (omega arith)
   first-is (suc n) i k h l t f = at (ℕ-discrete i k) (λ a. first-is n (i + 1) k a (omega arith) t (λ m b d. f m (omega arith) d))
     where
-      at : Dec (i ≡ k) → (i + 1 ≤ k → first p n (i + 1) ≡ k) → pick (p i) i (first p n (i + 1)) ≡ k
+      at : Dec (i ≡ k) → (i + 1 ≤ k → first p n (i + 1) ≡ k) → cond (p i) i (first p n (i + 1)) ≡ k
       at (yes q) later = rw (ap p q ∙ t) q
       at (no q) later = rw (f i (omega arith) (omega arith)) (later (omega arith))
 
@@ -113,20 +114,6 @@ module _ (p : ℕ → Bool) where
   howMany-none zero f = refl
   howMany-none (suc n) f = rw (howMany-none n (λ k h. f k (omega arith)), f n (omega arith))
 
-  -- where the count is 0 the test holds nowhere
-  pub howMany-zero : (n : ℕ) → howMany p n ≡ 0 → (k : ℕ) → k < n → p k ≡ false
-  unfolding howMany
-  howMany-zero zero e k h = absurd (omega arith)
-  howMany-zero (suc n) e k h = at (ℕ-discrete k n) (howMany-zero n (omega arith) k)
-    where
-      unset : (b : Bool) → asBit b ≡ 0 → b ≡ false
-      unset true z = absurd (omega arith)
-      unset false z = refl
-
-      at : Dec (k ≡ n) → (k < n → p k ≡ false) → p k ≡ false
-      at (yes q) below = ap p q ∙ unset (p n) (omega arith)
-      at (no q) below = below (omega arith)
-
 pub howMany-cong : (p q : ℕ → Bool) (n : ℕ) → ((k : ℕ) → k < n → p k ≡ q k) → howMany p n ≡ howMany q n
 unfolding howMany
 howMany-cong p q zero e = refl
@@ -150,7 +137,7 @@ first-shift p a (suc n) i =
     let e : a + i + 1 ≡ a + (i + 1) = omega arith in
     rw (e, first-shift p a n (i + 1)) (out (p (a + i)))
   where
-    out : (b : Bool) → pick b (a + i) (a + first (λ k. p (a + k)) n (i + 1)) ≡ a + pick b i (first (λ k. p (a + k)) n (i + 1))
+    out : (b : Bool) → cond b (a + i) (a + first (λ k. p (a + k)) n (i + 1)) ≡ a + cond b i (first (λ k. p (a + k)) n (i + 1))
     out true = refl
     out false = refl
 
@@ -167,3 +154,50 @@ first-fewer p m n i h l =
 
 pub first-later : (p : ℕ → Bool) (m n i : ℕ) → i + m ≤ first p n i → first p m i ≡ i + m
 first-later p m n i h = first-none p m i (λ k a b. first-before p n i k a (omega arith))
+
+-- whether a search finds nothing, as a loop over its places learns it
+module _ (p : ℕ → Bool) (from i : ℕ) (low : from ≤ i) where
+  -- before the place i, and with it
+  abbrev before : ℕ
+  before = first p (i - from) from
+
+  abbrev after : ℕ
+  after = first p (i + 1 - from) from
+
+  -- the test holds at the place: the search with it finds something
+  pub none-here : p i ≡ true → false ≡ leb (i + 1) after
+  none-here t = at (leb (i + 1) after) refl
+    where
+      at : (b : Bool) → leb (i + 1) after ≡ b → false ≡ b
+      at false e = refl
+      at true e =
+          let behind : i < after = omega (arith, leb-true (i + 1) after e) in
+          sym (first-before p (i + 1 - from) from i low behind) ∙ t
+
+  -- it does not: the search finds something if it did before
+  pub none-on : p i ≡ false → leb i before ≡ leb (i + 1) after
+  none-on f = at (leb i before) refl
+    where
+      clear : (k : ℕ) → from ≤ k → Dec (k ≡ i) → i ≤ before → k < from + (i + 1 - from) → p k ≡ false
+      clear k a (yes q) behind l = ap p q ∙ f
+      clear k a (no q) behind l = first-before p (i - from) from k a (omega arith)
+
+      at : (b : Bool) → leb i before ≡ b → b ≡ leb (i + 1) after
+      at true e =
+          let behind : i ≤ before = leb-true i before e in
+          sym (le-leb (i + 1) after (omega (arith, first-none p (i + 1 - from) from (λ k a b. clear k a (ℕ-discrete k i) behind b))))
+      at false e =
+          let found : before < i = leb-false i before e in
+          let (least, most) = first-range p (i - from) from in
+          let same : after ≡ before = first-is p (i + 1 - from) from before least (omega arith) (first-found p (i - from) from (omega arith)) (λ k a b. first-before p (i - from) from k a b) in
+          sym (lt-leb (i + 1) after (omega arith))
+
+-- a search of no places finds nothing
+pub none-start : (p : ℕ → Bool) (from : ℕ) → true ≡ leb from (first p (from - from) from)
+none-start p from =
+    let (least, most) = first-range p (from - from) from in
+    sym (le-leb from (first p (from - from) from) least)
+
+-- one that finds nothing ends behind its places
+pub none-end : (p : ℕ → Bool) (from end : ℕ) → from ≤ end → leb end (first p (end - from) from) ≡ true → end ≡ first p (end - from) from
+none-end p from end low e = omega (arith, leb-true end (first p (end - from) from) e, first-range p (end - from) from)

@@ -1,4 +1,4 @@
 pub mod Bit
-pub mod Pick
+pub mod Check
 pub mod Search
 pub mod Tab

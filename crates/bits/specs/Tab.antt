@@ -1,8 +1,8 @@
 -- Lists by a rule.
 -- Assumes nothing.
 use mathlib.Core.List.{List, [], _∷_, _++_}
-use Prim.Native.Nat.{ℕ, zero, suc, _+_}
-use lib.ListN.{length, take, drop, replicate}
+use Prim.Native.Nat.{ℕ, zero, suc, _+_, _<_}
+use lib.ListN.{length, getD, take, drop, replicate}
 
 module _ {A : Type 0} where
   -- f 0, f 1, .., n of them
@@ -25,3 +25,7 @@ module _ {A : Type 0} where
   -- the list l from the place at on, and the rest as it was
   abbrev pub placed : ℕ → List A → List A → List A
   placed at l d = take at d ++ (l ++ drop (at + length l) d)
+
+-- bytes, as a payload's cells are
+abbrev pub Bytes : List ℕ → Type 0
+Bytes l = (i : ℕ) → getD l i 0 < 256

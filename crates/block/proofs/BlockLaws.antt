@@ -1,20 +1,20 @@
 -- A block read back: each bit of each codeword comes from one symbol, and comes back if that symbol does.
 -- Assumes nothing.
 use mathlib.Core.Path.{_≡_, refl, ap, _∙_}
-use mathlib.Core.Bool.{Bool, true, false, not}
+use mathlib.Core.Bool.{Bool, true, false, not, cond}
 use mathlib.Core.List.{List, []}
-use Prim.Native.Nat.{ℕ, zero, suc, _+_, _-_, _%_, _^_, _≤_, _<_}
+use Prim.Native.Nat.{ℕ, _+_, _-_, _%_, _^_, _≤_, _<_}
 use native.Mathlib.Nat.{mod-lt}
 use native.Mathlib.Omega.{arith}
 use lib.Dec.{eqb}
 use lib.ListN.{getD}
-use borrow.Author.Tests.{eqb-true, eq-eqb}
+use borrow.Author.Tests.{eqb-true, eq-eqb, ne-eqb}
 use Rattle.bits.specs.Bit.{bit, isSet, asBit}
-use Rattle.bits.specs.Pick.{pick}
 use Rattle.bits.specs.Search.{howMany}
-use Rattle.bits.proofs.Bits.{bit-lt, bit-number, number-lt, number-cong, turn, same-bits}
+use Rattle.bits.proofs.Bits.{bit-lt, bit-number, number-lt, number-cong, asBit-isSet}
+use Rattle.bits.proofs.Searches.{first-is, howMany-mono}
 use Rattle.bits.proofs.Tabs.{getD-over}
-use Rattle.bits.proofs.Searches.{howMany-mono}
+use Rattle.bits.proofs.Turns.{turn, turn-back}
 use Rattle.block.specs.Block.{wordOfCodewords, symbolOfCodewords, placeInWord, wordOfNumber, received}
 use Rattle.block.specs.Grid.{row, grid, cell, wordOfGrid, gridOfWords, codewordOfGrid}
 use Rattle.block.proofs.GrayLaws.{word-of-value-of-word, value-lt, value-of-number-of-value, number-of-value-lt}
@@ -25,19 +25,33 @@ unfolding wordOfCodewords
 word-of-codewords-lt n c j = number-lt n _ (λ k. bit-lt _ _)
 
 -- a symbol has n bits, at the four-wide spacing two more
-pub symbol-lt : (n : ℕ) (wide : Bool) (c : ℕ → ℕ) (j : ℕ) → symbolOfCodewords n wide c j < 2 ^ pick wide (n + 2) n
+pub symbol-lt : (n : ℕ) (wide : Bool) (c : ℕ → ℕ) (j : ℕ) → symbolOfCodewords n wide c j < 2 ^ cond wide (n + 2) n
 unfolding symbolOfCodewords
 symbol-lt n wide c j = number-of-value-lt n wide _ (value-lt n (wordOfCodewords n c j))
 
--- the place of row i in symbol word j leads back to row i
-pub place-turn : (n i j : ℕ) → i < n → (j + placeInWord n i j) % n ≡ i
+-- the place of row i in symbol word j, by arithmetic
+pub place-is : (n i j : ℕ) → i < n → placeInWord n i j ≡ (i + n - j % n) % n
 unfolding placeInWord
-place-turn n i j h = turn n i j h
+place-is n i j h = first-is _ n 0 place (omega arith) (omega (arith, place-in)) (eq-eqb _ _ (turn n i j h)) (λ k l below. ne-eqb _ _ (other k below))
+  where
+    place : ℕ
+    place = (i + n - j % n) % n
 
--- that place is one of the word's n bits
+    place-in : place < n
+    place-in = mod-lt (i + n - j % n) (omega arith)
+
+    other : (k : ℕ) → k < place → (j + k) % n ≡ i → ⊥
+    other k below e =
+        let same : place ≡ k = rw e at (turn-back n j k (omega (arith, place-in))) in
+        omega arith
+
+-- it leads back to row i
+pub place-turn : (n i j : ℕ) → i < n → (j + placeInWord n i j) % n ≡ i
+place-turn n i j h = rw (place-is n i j h) (turn n i j h)
+
+-- and is one of the word's n bits
 pub place-lt : (n i j : ℕ) → i < n → placeInWord n i j < n
-unfolding placeInWord
-place-lt n i j h = mod-lt (i + n - j % n) (omega arith)
+place-lt n i j h = rw (place-is n i j h) (mod-lt (i + n - j % n) (omega arith))
 
 -- what is read from a symbol that came through is the word it was made of
 pub read-symbol : (n : ℕ) (wide : Bool) (c : ℕ → ℕ) (j : ℕ) → wordOfNumber wide (symbolOfCodewords n wide c j) ≡ wordOfCodewords n c j
@@ -66,18 +80,6 @@ pub received-lt : (n columns : ℕ) (wide : Bool) (s : ℕ → ℕ) (i : ℕ) �
 unfolding received
 received-lt n columns wide s i = number-lt columns _ (λ k. bit-lt _ _)
 
--- a codeword whose symbols all come through comes back
-pub read-back : (n columns : ℕ) (wide : Bool) (c s : ℕ → ℕ) (i : ℕ) → i < n → c i < 2 ^ columns
-    → ((j : ℕ) → j < columns → s j ≡ symbolOfCodewords n wide c j) → received n columns wide s i ≡ c i
-read-back n columns wide c s i hi small e =
-    same-bits columns _ _ (received-lt n columns wide s i) small (λ j hj. local n columns wide c s i j hi hj (e j hj))
-
--- a bit comes back from its truth value
-pub as-bit-is-set : (b : ℕ) → b < 2 → asBit (isSet b) ≡ b
-as-bit-is-set zero h = refl
-as-bit-is-set (suc zero) h = refl
-as-bit-is-set (suc (suc b)) h = absurd (omega arith)
-
 -- the grid's cells are the bits it was made of
 pub cell-grid : (n columns : ℕ) (b : ℕ → ℕ → Bool) (i j : ℕ) → i < n → j < columns → cell (grid n columns b) i j ≡ b i j
 unfolding cell grid row
@@ -89,14 +91,14 @@ pub word-through-grid : (n columns : ℕ) (c : ℕ → ℕ) (j : ℕ) → j < co
     → wordOfGrid n (grid n columns (λ i k. isSet (bit k (c i)))) j ≡ wordOfCodewords n c j
 unfolding wordOfGrid wordOfCodewords
 word-through-grid n columns c j hj =
-    number-cong n _ _ (λ k h. ap asBit (cell-grid n columns _ ((j + k) % n) j (mod-lt (j + k) (omega arith)) hj) ∙ as-bit-is-set _ (bit-lt j _))
+    number-cong n _ _ (λ k h. ap asBit (cell-grid n columns _ ((j + k) % n) j (mod-lt (j + k) (omega arith)) hj) ∙ asBit-isSet _ (bit-lt j _))
 
 -- codeword i, by way of the grid, from the words that the symbols are read as
-pub codeword-through-grid : (n columns : ℕ) (wide : Bool) (s : ℕ → ℕ) (ws : List ℕ) (i : ℕ) → i < n
-    → ((j : ℕ) → j < columns → getD ws j 0 ≡ wordOfNumber wide (s j)) → codewordOfGrid columns (gridOfWords n columns ws) i ≡ received n columns wide s i
+pub codeword-through-grid : (n columns : ℕ) (wide : Bool) (s : ℕ → ℕ) (ws : List ℕ) (i : ℕ) → columns ≤ 8 → i < n
+    → ((j : ℕ) → j < columns → getD ws j 0 ≡ wordOfNumber wide (s j)) → codewordOfGrid columns (gridOfWords n ws) i ≡ received n columns wide s i
 unfolding codewordOfGrid gridOfWords received
-codeword-through-grid n columns wide s ws i hi e =
-    number-cong columns _ _ (λ j h. ap asBit (cell-grid n columns _ i j hi h) ∙ as-bit-is-set _ (bit-lt (placeInWord n i j) _) ∙ ap (bit (placeInWord n i j)) (e j h))
+codeword-through-grid n columns wide s ws i most hi e =
+    number-cong columns _ _ (λ j h. ap asBit (cell-grid n 8 _ i j hi (omega arith)) ∙ asBit-isSet _ (bit-lt (placeInWord n i j) _) ∙ ap (bit (placeInWord n i j)) (e j h))
 
 -- if equal x and y make a and b equal, then unequal a and b make x and y unequal
 not-eqb-mono : (a b x y : ℕ) → (x ≡ y → a ≡ b) → not (eqb a b) ≡ true → not (eqb x y) ≡ true

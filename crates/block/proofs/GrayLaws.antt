@@ -1,7 +1,7 @@
 -- The Gray step and its inverse.
 -- Assumes nothing.
 use mathlib.Core.Path.{_≡_, refl, sym, ap}
-use mathlib.Core.Bool.{Bool, true, false}
+use mathlib.Core.Bool.{Bool, true, false, cond}
 use Prim.Native.Nat.{ℕ, zero, suc, _+_, _*_, _/_, _%_, _^_, _<_}
 use native.Mathlib.Nat.{mod-lt, div-one, div-add-mod', pow-suc, zero-lt-suc}
 use native.Mathlib.Omega.{arith}
@@ -9,24 +9,23 @@ use lib.Arith.{lt-one, bin-ind}
 use lib.Pow.{pow-add}
 use lib.Count.{ones, ones-step}
 use Rattle.bits.specs.Bit.{number}
-use Rattle.bits.specs.Pick.{pick}
 use Rattle.bits.proofs.Bits.{half-pow, number-lt}
 use Rattle.bits.proofs.Xor.{xor-sum}
 use Rattle.block.specs.Gray.{valueOfWord, wordOfValue, numberOfValue, valueOfNumber}
 
 -- the value, one bit at a time from below
-pub value-step : (n w : ℕ) → valueOfWord (suc n) w ≡ valueOfWord n (w / 2) * 2 + ones w % 2
+value-step : (n w : ℕ) → valueOfWord (suc n) w ≡ valueOfWord n (w / 2) * 2 + ones w % 2
 unfolding valueOfWord number
 value-step n w = simp (half-pow, div-one)
 
 -- the value's lowest bit is the parity of the word
-pub value-low : (n w : ℕ) → w < 2 ^ n → valueOfWord n w % 2 ≡ ones w % 2
+value-low : (n w : ℕ) → w < 2 ^ n → valueOfWord n w % 2 ≡ ones w % 2
 unfolding valueOfWord number ones
 value-low zero w h = rw (lt-one h)
 value-low (suc n) w h = rw value-step (omega arith)
 
 -- the word of a value, one bit at a time from below
-pub word-step : (v : ℕ) → wordOfValue v ≡ wordOfValue (v / 2) * 2 + (v % 2 + v / 2 % 2) % 2
+word-step : (v : ℕ) → wordOfValue v ≡ wordOfValue (v / 2) * 2 + (v % 2 + v / 2 % 2) % 2
 unfolding wordOfValue
 word-step v = xor-sum v (v / 2)
 
@@ -48,7 +47,7 @@ word-of-value-of-word (suc n) w h =
     rw (word-step (valueOfWord (suc n) w), half, odd, word-of-value-of-word n (w / 2) below, value-low n (w / 2) below, twice) (div-add-mod' w 2)
 
 -- the parity of a value's word is the value's lowest bit
-pub ones-word : (v : ℕ) → ones (wordOfValue v) % 2 ≡ v % 2
+ones-word : (v : ℕ) → ones (wordOfValue v) % 2 ≡ v % 2
 unfolding ones wordOfValue
 ones-word = bin-ind (λ (n : ℕ). ones (wordOfValue n) % 2 ≡ n % 2) refl
     (λ n ih. let half : wordOfValue n / 2 ≡ wordOfValue (n / 2) = omega (arith, word-step n) in
@@ -76,7 +75,7 @@ value-of-number-of-value false v = refl
 value-of-number-of-value true v = omega arith
 
 -- a symbol number has n bits, at the four-wide spacing two more
-pub number-of-value-lt : (n : ℕ) (wide : Bool) (v : ℕ) → v < 2 ^ n → numberOfValue wide v < 2 ^ pick wide (n + 2) n
+pub number-of-value-lt : (n : ℕ) (wide : Bool) (v : ℕ) → v < 2 ^ n → numberOfValue wide v < 2 ^ cond wide (n + 2) n
 unfolding numberOfValue
 number-of-value-lt n false v h = h
 number-of-value-lt n true v h = rw (pow-add 2 n 2) (omega arith)

@@ -5,29 +5,19 @@ use Prim.Native.Nat.{ℕ, _+_, _/_, _%_, _^_, _≤_, _<_}
 use native.Mathlib.Nat.{div-eq-of-lt, lt-of-lt-of-le, lt-of-le-of-lt}
 use native.Mathlib.Omega.{arith}
 use lib.Pow.{pow-mono, shr-le}
-use lib.Bits.{bitXor, xor-step, xor-shr, xor-lt, xor-zero-r}
+use lib.Bits.{bitXor, xor-lt, xor-zero-r}
 use Rattle.bits.specs.Bit.{bit}
-use Rattle.bits.proofs.Bits.{same-bits}
+use Rattle.bits.proofs.Bits.{bit-down, bit-xor, same-bits}
 use Rattle.block.specs.Gray.{valueOfWord, wordOfValue}
-use Rattle.block.proofs.TurnLaws.{bit-down}
-use Rattle.bits.proofs.Xor.{differ-mod}
 use Rattle.block.proofs.GrayLaws.{value-of-word-of-value}
 
 -- a number XORed with itself, m places down
 unfoldable pub folded : ℕ → ℕ → ℕ
 folded m a = bitXor a (a / 2 ^ m)
 
-pub folded-lt : (n m a : ℕ) → a < 2 ^ n → folded m a < 2 ^ n
+folded-lt : (n m a : ℕ) → a < 2 ^ n → folded m a < 2 ^ n
 unfolding folded
 folded-lt n m a h = xor-lt n a (a / 2 ^ m) h (lt-of-le-of-lt (shr-le a m) h)
-
-bit-xor : (k a b : ℕ) → bit k (bitXor a b) ≡ (bit k a + bit k b) % 2
-unfolding bit
-bit-xor k a b =
-    let x : ℕ = a / 2 ^ k in
-    let y : ℕ = b / 2 ^ k in
-    let d = differ-mod (x % 2) (y % 2) (omega arith) (omega arith) in
-    rw (xor-shr a b k) (omega (arith, xor-step x y, d))
 
 bit-folded : (k m a : ℕ) → bit k (folded m a) ≡ (bit k a + bit (m + k) a) % 2
 unfolding folded

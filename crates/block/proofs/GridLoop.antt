@@ -4,36 +4,23 @@ use mathlib.Core.Path.{_≡_, refl, sym, ap, _∙_}
 use mathlib.Core.Bool.{Bool, true, false}
 use mathlib.Core.List.{List, []}
 use Prim.Native.Nat.{ℕ, _+_, _-_, _*_, _/_, _%_, _^_, _≤_, _<_}
-use native.Mathlib.Nat.{mod-eq-of-lt, mod-eq-sub-mod, mod-lt, add-mod-mod}
+use native.Mathlib.Nat.{mod-lt, add-mod-mod, add-mul, mul-assoc, mul-comm, mul-le-mul-right, one-mul}
 use native.Mathlib.Omega.{arith}
-use native.Mathlib.Decide.{decLt}
-use lib.Pow.{pow-pos}
+use lib.Arith.{digits-div, digits-mod, mod-mul}
 use lib.ListN.{getD}
+use lib.Pow.{pow-add, pow-pos, pow-mono, shl-exact}
 use Rattle.bits.specs.Bit.{bit, number, isSet, asBit}
 use Rattle.bits.specs.Tab.{tab, over, blank}
-use Rattle.bits.proofs.Bits.{bit-lt, bit-number, number-lt, number-cong, number-start, number-back, number-end, number-small}
-use Rattle.bits.proofs.Searches.{asBit-le}
-use Rattle.bits.proofs.Tabs.{getD-blank, getD-over, getD-over-rest, over-cong, over-none}
+use Rattle.bits.proofs.Bits.{bit-lt, bit-above, bit-number, number-lt, number-cong, number-cut, number-start, number-back, number-end, number-small, asBit-lt}
+use Rattle.bits.proofs.Tabs.{getD-over, over-blank, over-cong, over-none}
+use Rattle.bits.proofs.Turns.{number-turned}
 use Rattle.block.specs.Block.{placeInWord}
 use Rattle.block.specs.Grid.{row, grid, cell, wordOfGrid, wordsOfGrid, gridOfWords, codewordOfGrid}
-use Rattle.block.proofs.TurnLaws.{bit-mod, bit-above, number-cut, over-blank}
+use Rattle.block.proofs.BlockLaws.{place-is}
 
--- a place once round
-pub once : (n at : ℕ) → n ≤ at → at < 2 * n → at % n ≡ at - n
-once n at low high = mod-eq-sub-mod low ∙ mod-eq-of-lt (omega arith)
-
--- the cells of a row, and the rows, by name
-unfoldable pub cellOfCodeword : ℕ → ℕ → Bool
-cellOfCodeword cw j = isSet (bit j cw)
-
-unfoldable pub rowOfCodeword : ℕ → List ℕ → ℕ → List Bool
-rowOfCodeword columns cws i = row columns (λ j. isSet (bit j (getD cws i 0)))
-
+-- cell j of row i, where the columns are given
 unfoldable pub cellOfColumns : List ℕ → ℕ → ℕ → Bool
 cellOfColumns plain i j = isSet (bit i (getD plain j 0))
-
-asBit-lt : (b : Bool) → asBit b < 2
-asBit-lt b = omega (arith, asBit-le b)
 
 -- four bits, eight places apart, brought together by a product
 pub gathered : (a b c d : Bool)
@@ -58,13 +45,6 @@ gathered false false false false = refl
 -- column j with the bit of a row more
 unfoldable pub longer : List ℕ → List Bool → ℕ → ℕ
 longer columns r j = getD columns j 0 * 2 + asBit (getD r j false)
-
--- the lowest bits of a codeword, and none above them, are its row
-pub row-cut : (columns cw : ℕ) {low : ℕ} → columns ≤ 8 → low ≡ cw % 2 ^ columns → over 8 (cellOfCodeword low) (blank 8 false) ≡ row columns (λ j. isSet (bit j cw))
-unfolding row cellOfCodeword
-row-cut columns cw {low} h e =
-    over-blank columns 8 _ _ false h (λ j l. ap isSet (ap (bit j) e ∙ bit-mod columns cw j l))
-    (λ j l s. ap isSet (bit-above columns low j l (rw e (mod-lt cw (pow-pos columns)))))
 
 -- the bits of a row of the grid, cut to the block's columns, are its codeword
 pub codeword-cut : (columns : ℕ) (g : List (List Bool)) (i : ℕ) {x r : ℕ} → columns ≤ 8 → x ≡ number 8 (λ j. asBit (getD (getD g i []) j false))
@@ -96,6 +76,36 @@ pub columns-all : (n : ℕ) (g : List (List Bool)) (i : ℕ) → i ≡ 0
 unfolding columnFrom
 columns-all n g i e = over-cong 8 _ _ (blank 8 0) (λ j l. number-end (λ k. asBit (cell g k j)) n i e)
 
+-- a number of two parts moved up and cut: the lower part is left
+moved-up : (a b q r : ℕ) → 0 < a → r < b → (q * b + r) * a % (a * b) ≡ r * a
+moved-up a b q r pos h =
+    let product : (q * b + r) * a ≡ q * (a * b) + r * a = add-mul (q * b) r a ∙ ap (λ (x : ℕ). x + r * a) (mul-assoc q b a ∙ ap (λ (x : ℕ). q * x) (mul-comm b a)) in
+    let next : (r + 1) * a ≤ b * a = mul-le-mul-right a (omega arith) in
+    let below : r * a < a * b = omega (arith, next, add-mul r 1 a, one-mul a, mul-comm b a) in
+    ap (λ (x : ℕ). x % (a * b)) product ∙ digits-mod q below
+
+-- the lowest n bits of a word, turned s places upwards, and that they are small
+pub turned-by : (n s w : ℕ) {p : ℕ} → n ≤ 12 → s ≤ n → p ≡ 2 ^ n
+    → (w % p * 2 ^ s % 4294967296 % p + w % p / 2 ^ (n - s) ≡ number n (λ i. bit ((i + n - s) % n) w)) × (w % p < 4096) × (w % p * 2 ^ s % 4294967296 % p < 4096)
+    × (w % p * 2 ^ s % 4294967296 % p + w % p / 2 ^ (n - s) < 4096)
+turned-by n s w {p} l h e =
+    let a : ℕ = 2 ^ s in
+    let b : ℕ = 2 ^ (n - s) in
+    let q : ℕ = w / b % a in
+    let r : ℕ = w % b in
+    let sum : n ≡ s + (n - s) = omega arith in
+    let whole : p ≡ a * b = e ∙ ap (λ (k : ℕ). 2 ^ k) sum ∙ pow-add 2 s (n - s) in
+    let parts : w % p ≡ q * b + r = ap (λ (x : ℕ). w % x) whole ∙ mod-mul w (pow-pos s) (pow-pos (n - s)) in
+    let most : p ≤ 4096 = rw e (pow-mono {j = 12} l) in
+    let small : w % p < 4096 = omega (arith, mod-lt w {m = p} (rw e (pow-pos n))) in
+    let exact : w % p * a % 4294967296 ≡ w % p * a = shl-exact 12 s 32 small (omega arith) in
+    let up : w % p * a % 4294967296 % p ≡ r * a
+    = rw (exact, parts, whole) (moved-up a b q r (pow-pos s) (mod-lt w {m = b} (pow-pos (n - s)))) in
+    let down : w % p / b ≡ q = rw parts (digits-div q (mod-lt w {m = b} (pow-pos (n - s)))) in
+    let is : w % p * a % 4294967296 % p + w % p / b ≡ number n (λ i. bit ((i + n - s) % n) w) = rw (up, down) (number-turned n s w h) in
+    let low : w % p * a % 4294967296 % p < 4096 = omega (arith, mod-lt (w % p * a % 4294967296) {m = p} (rw e (pow-pos n))) in
+    (is, small, low, rw is (number-small _ n 12 l (λ i. bit-lt _ _)))
+
 -- word j of a column, turned
 unfoldable pub wordOfColumns : ℕ → List ℕ → ℕ → ℕ
 wordOfColumns n plain j = number n (λ k. bit ((j + k) % n) (getD plain j 0))
@@ -110,11 +120,11 @@ word-turned n j w {s} r h e p = p ∙ number-cong n _ _ (λ k l. ap (λ (i : ℕ
         let t : k + j ≡ j + k = omega arith in
         rw q (add-mod-mod k j n ∙ ap (λ (x : ℕ). x % n) t)
 
-pub words-of-columns : (n columns : ℕ) (g : List (List Bool)) {plain : List ℕ} → 0 < n → columns ≤ 8 → plain ≡ over 8 (λ j. number n (λ i. asBit (cell g i j))) (blank 8 0)
-    → over columns (wordOfColumns n plain) (blank 8 0) ≡ wordsOfGrid n columns g
+pub words-of-columns : (n : ℕ) (g : List (List Bool)) {plain : List ℕ} → 0 < n → plain ≡ over 8 (λ j. number n (λ i. asBit (cell g i j))) (blank 8 0)
+    → over 8 (wordOfColumns n plain) (blank 8 0) ≡ wordsOfGrid n g
 unfolding wordsOfGrid wordOfGrid wordOfColumns
-words-of-columns n columns g {plain} pos h e =
-    over-cong columns _ _ (blank 8 0) (λ j l. number-cong n _ _ (λ k s. ap (bit ((j + k) % n)) (column j (omega arith)) ∙ bit-number n _ (λ i. asBit-lt (cell g i j)) ((j + k) % n) (mod-lt (j + k) pos)))
+words-of-columns n g {plain} pos e =
+    over-cong 8 _ _ (blank 8 0) (λ j l. number-cong n _ _ (λ k s. ap (bit ((j + k) % n)) (column j l) ∙ bit-number n _ (λ i. asBit-lt (cell g i j)) ((j + k) % n) (mod-lt (j + k) pos)))
   where
     column : (j : ℕ) → j < 8 → getD plain j 0 ≡ number n (λ i. asBit (cell g i j))
     column j l = rw e (getD-over 8 (λ j. number n (λ i. asBit (cell g i j))) (blank 8 0) j 0 l)
@@ -124,32 +134,27 @@ unfoldable pub columnOfWords : ℕ → List ℕ → ℕ → ℕ
 columnOfWords n ws j = number n (λ i. bit (placeInWord n i j) (getD ws j 0))
 
 pub column-turned : (n j : ℕ) (ws : List ℕ) {s r : ℕ} → s ≡ j % n → r ≡ number n (λ i. bit ((i + n - s) % n) (getD ws j 0)) → r ≡ columnOfWords n ws j
-unfolding columnOfWords placeInWord
-column-turned n j ws e p = rw e at p
+unfolding columnOfWords
+column-turned n j ws e p = (rw e at p) ∙ number-cong n _ _ (λ i l. ap (λ (k : ℕ). bit k (getD ws j 0)) (sym (place-is n i j l)))
 
--- the row that a row of columns is, where these are 0 behind the block's
+-- the row that a row of columns is
 unfoldable pub rowOfColumns : List ℕ → ℕ → List Bool
 rowOfColumns plain i = row 8 (λ j. isSet (bit i (getD plain j 0)))
 
-pub rows-of-columns : (n columns : ℕ) (ws : List ℕ) {plain : List ℕ} → n ≤ 12 → columns ≤ 8 → plain ≡ over columns (λ j. number n (λ i. bit (placeInWord n i j) (getD ws j 0))) (blank 8 0)
-    → over 12 (rowOfColumns plain) (blank 12 (blank 8 false)) ≡ gridOfWords n columns ws
+pub rows-of-columns : (n : ℕ) (ws : List ℕ) {plain : List ℕ} → n ≤ 12 → plain ≡ over 8 (λ j. number n (λ i. bit (placeInWord n i j) (getD ws j 0))) (blank 8 0)
+    → over 12 (rowOfColumns plain) (blank 12 (blank 8 false)) ≡ gridOfWords n ws
 unfolding gridOfWords grid rowOfColumns row
-rows-of-columns n columns ws {plain} most h p =
-    over-blank n 12 _ _ (blank 8 false) most
-    (λ i l. over-blank columns 8 _ _ false h (λ j s. ap isSet (inside i l j s)) (λ j s t. ap isSet (outside i j s t)))
+rows-of-columns n ws {plain} most p =
+    over-blank n 12 _ _ (blank 8 false) most (λ i l. over-cong 8 _ _ (blank 8 false) (λ j s. ap isSet (inside i l j s)))
     (λ i l u.
-    over-blank 0 8 _ (λ j. false) false (omega arith) (λ j s. absurd (omega arith)) (λ j s t. ap isSet (above i l j t (decLt j columns)))
+    over-blank 0 8 _ (λ j. false) false (omega arith) (λ j s. absurd (omega arith)) (λ j s t. ap isSet (above i l j t))
     ∙ sym (over-none (λ j. false) (blank 8 false)))
   where
     f : ℕ → ℕ → ℕ
     f j i = bit (placeInWord n i j) (getD ws j 0)
 
-    inside : (i : ℕ) → i < n → (j : ℕ) → j < columns → bit i (getD plain j 0) ≡ f j i
-    inside i l j s = rw (p, getD-over columns (λ j. number n (f j)) (blank 8 0) j 0 s) (bit-number n (f j) (λ k. bit-lt _ _) i l)
+    inside : (i : ℕ) → i < n → (j : ℕ) → j < 8 → bit i (getD plain j 0) ≡ f j i
+    inside i l j s = rw (p, getD-over 8 (λ j. number n (f j)) (blank 8 0) j 0 s) (bit-number n (f j) (λ k. bit-lt _ _) i l)
 
-    outside : (i j : ℕ) → columns ≤ j → j < 8 → bit i (getD plain j 0) ≡ 0
-    outside i j s t = rw (p, getD-over-rest columns (λ j. number n (f j)) (blank 8 0) j 0 s, getD-blank {A = ℕ} 8 j 0 0 t) (bit-above 0 0 i (omega arith) (omega arith))
-
-    above : (i : ℕ) → n ≤ i → (j : ℕ) → j < 8 → Dec (j < columns) → bit i (getD plain j 0) ≡ 0
-    above i l j t (yes s) = rw (p, getD-over columns (λ j. number n (f j)) (blank 8 0) j 0 s) (bit-above n _ i l (number-lt n (f j) (λ k. bit-lt _ _)))
-    above i l j t (no s) = outside i j (omega arith) t
+    above : (i : ℕ) → n ≤ i → (j : ℕ) → j < 8 → bit i (getD plain j 0) ≡ 0
+    above i l j t = rw (p, getD-over 8 (λ j. number n (f j)) (blank 8 0) j 0 t) (bit-above n _ i l (number-lt n (f j) (λ k. bit-lt _ _)))

@@ -2,4 +2,3 @@ pub mod BlockLaws
 pub mod GrayLaws
 pub mod GrayLoop
 pub mod GridLoop
-pub mod TurnLaws

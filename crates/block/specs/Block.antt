@@ -2,8 +2,10 @@
 -- A block has n rows, one for each codeword.
 -- Assumes nothing.
 use mathlib.Core.Bool.{Bool}
-use Prim.Native.Nat.{ℕ, _+_, _-_, _%_}
+use Prim.Native.Nat.{ℕ, _+_, _%_}
+use lib.Dec.{eqb}
 use Rattle.bits.specs.Bit.{bit, number}
+use Rattle.bits.specs.Search.{first}
 use Rattle.block.specs.Gray.{valueOfWord, wordOfValue, numberOfValue, valueOfNumber}
 
 -- symbol word j of the codewords c: its bit k is bit j of codeword (j + k) mod n
@@ -14,9 +16,9 @@ wordOfCodewords n c j = number n (λ k. bit j (c ((j + k) % n)))
 unfoldable pub symbolOfCodewords : ℕ → Bool → (ℕ → ℕ) → ℕ → ℕ
 symbolOfCodewords n wide c j = numberOfValue wide (valueOfWord n (wordOfCodewords n c j))
 
--- which bit of symbol word j is bit j of codeword i: the k with (j + k) mod n = i
+-- which bit of symbol word j is bit j of codeword i: the k below n with (j + k) mod n = i
 unfoldable pub placeInWord : ℕ → ℕ → ℕ → ℕ
-placeInWord n i j = (i + n - j % n) % n
+placeInWord n i j = first (λ k. eqb ((j + k) % n) i) n 0
 
 -- the symbol word that a number is read as
 unfoldable pub wordOfNumber : Bool → ℕ → ℕ

@@ -1,11 +1,10 @@
 -- Document 01, "Blocks, the diagonal and the Gray step": from a word to a symbol number, and back.
 -- Assumes nothing.
-use mathlib.Core.Bool.{Bool}
+use mathlib.Core.Bool.{Bool, cond}
 use Prim.Native.Nat.{ℕ, _*_, _/_, _%_, _^_}
 use lib.Bits.{bitXor}
 use lib.Count.{ones}
 use Rattle.bits.specs.Bit.{number}
-use Rattle.bits.specs.Pick.{pick}
 
 -- the value of a word of n bits has, at each bit, the XOR of the word's bits at that place and all above it
 unfoldable pub valueOfWord : ℕ → ℕ → ℕ
@@ -17,8 +16,8 @@ wordOfValue v = bitXor v (v / 2)
 
 -- at the four-wide spacing, of a block with N = SF - 2, the symbol number is 4 x value
 unfoldable pub numberOfValue : Bool → ℕ → ℕ
-numberOfValue wide v = pick wide (4 * v) v
+numberOfValue wide v = cond wide (4 * v) v
 
 -- reading takes the number divided by 4, rounded down
 unfoldable pub valueOfNumber : Bool → ℕ → ℕ
-valueOfNumber wide s = pick wide (s / 4) s
+valueOfNumber wide s = cond wide (s / 4) s

@@ -7,7 +7,7 @@ ghost use Rattle.bits.specs.Bit.{bit, number, isSet, asBit};
 ghost use Rattle.bits.specs.Tab.{over, blank};
 ghost use Rattle.block.specs.Gray.{valueOfWord, wordOfValue, numberOfValue, valueOfNumber};
 ghost use Rattle.block.specs.Block.{placeInWord, wordOfNumber};
-ghost use Rattle.block.specs.Grid.{Size, row, cell, gridOfCodewords, wordsOfGrid, gridOfWords, codewordOfGrid, codewordsOfGrid};
+ghost use Rattle.block.specs.Grid.{row, cell, wordsOfGrid, gridOfWords, codewordOfGrid};
 
 pub fn value_of_word(n: usize, w: u16) -> u16
     requires { ⌜ (n ≤ 12) × (w < 2 ^ n) ⌝ }
@@ -52,22 +52,15 @@ fn around(n: usize, at: usize) -> usize
     if at < n { at } else { at - n }
 }
 
-fn power(k: usize) -> u16
-    requires { ⌜ k ≤ 12 ⌝ }
-    ensures { λ r. ⌜ (r ≡ 2 ^ k) × (0 < r) ⌝ }
-{
-    1u16 << k
-}
-
 // The lowest n bits of a word, turned s places upwards.
 fn turned(n: usize, s: usize, w: u16) -> u16
     requires { ⌜ (n ≤ 12) × (s ≤ n) ⌝ }
     ensures { λ r. ⌜ r ≡ number n (λ i. bit ((i + n - s) % n) w) ⌝ }
 {
-    let rest = n - s;
-    let low = w % power(rest);
-    let high = (w >> rest) % power(s);
-    low * power(s) + high
+    let all = bits::power(n);
+    let low = w % all;
+    let up = ((low as u32) << s) % (all as u32);
+    up as u16 + (low >> (n - s))
 }
 
 // The lowest bits of a codeword.
@@ -75,31 +68,7 @@ fn low_bits(columns: usize, codeword: u8) -> u8
     requires { ⌜ columns ≤ 8 ⌝ }
     ensures { λ r. ⌜ r ≡ codeword % 2 ^ columns ⌝ }
 {
-    ((codeword as u16) % power(columns)) as u8
-}
-
-// The bits of a codeword as a row.
-fn row_of_codeword(columns: usize, codeword: u8) -> [bool; 8]
-    requires { ⌜ columns ≤ 8 ⌝ }
-    ensures { λ r. ⌜ r ≡ row columns (λ j. isSet (bit j codeword)) ⌝ }
-{
-    let low = low_bits(columns, codeword);
-    let mut cells = [false; 8];
-    for j in 0..8usize {
-        cells[j] = (low >> j) % 2 == 1;
-    }
-    cells
-}
-
-pub fn grid_of_codewords(n: usize, columns: usize, codewords: [u8; 12]) -> [[bool; 8]; 12]
-    requires { ⌜ Size n columns ⌝ }
-    ensures { λ r. ⌜ r ≡ gridOfCodewords n columns codewords ⌝ }
-{
-    let mut g = [[false; 8]; 12];
-    for i in 0..n {
-        g[i] = row_of_codeword(columns, codewords[i]);
-    }
-    g
+    ((codeword as u16) % bits::power(columns)) as u8
 }
 
 // The columns with a row more, each bit below those of its column.
@@ -129,26 +98,26 @@ fn columns_of_grid(n: usize, g: [[bool; 8]; 12]) -> [u16; 8]
     columns
 }
 
-// Word j down its diagonal: column j, turned.
-pub fn words_of_grid(n: usize, columns: usize, g: [[bool; 8]; 12]) -> [u16; 8]
-    requires { ⌜ Size n columns ⌝ }
-    ensures { λ r. ⌜ r ≡ wordsOfGrid n columns g ⌝ }
+// Word j down its diagonal: column j, turned. The loop runs over all eight columns, so that the compiler unrolls it.
+pub fn words_of_grid(n: usize, g: [[bool; 8]; 12]) -> [u16; 8]
+    requires { ⌜ (5 ≤ n) × (n ≤ 12) ⌝ }
+    ensures { λ r. ⌜ r ≡ wordsOfGrid n g ⌝ }
 {
     let plain = columns_of_grid(n, g);
     let mut words = [0u16; 8];
-    for j in 0..columns {
+    for j in 0..8usize {
         words[j] = turned(n, n - around(n, j), plain[j]);
     }
     words
 }
 
 // The column of each word: bit i of column j stands in row i.
-fn columns_of_words(n: usize, columns: usize, words: [u16; 8]) -> [u16; 8]
-    requires { ⌜ Size n columns ⌝ }
-    ensures { λ r. ⌜ r ≡ over columns (λ j. number n (λ i. bit (placeInWord n i j) (getD words j 0))) (blank 8 0) ⌝ }
+fn columns_of_words(n: usize, words: [u16; 8]) -> [u16; 8]
+    requires { ⌜ (5 ≤ n) × (n ≤ 12) ⌝ }
+    ensures { λ r. ⌜ r ≡ over 8 (λ j. number n (λ i. bit (placeInWord n i j) (getD words j 0))) (blank 8 0) ⌝ }
 {
     let mut plain = [0u16; 8];
-    for j in 0..columns {
+    for j in 0..8usize {
         plain[j] = turned(n, around(n, j), words[j]);
     }
     plain
@@ -165,11 +134,11 @@ fn set_row(plain: &[u16; 8], i: usize, cells: &mut [bool; 8])
 }
 
 // A column has no bits above the block's rows, so the loop can run over all 12, and the compiler unrolls it.
-pub fn grid_of_words(n: usize, columns: usize, words: [u16; 8]) -> [[bool; 8]; 12]
-    requires { ⌜ Size n columns ⌝ }
-    ensures { λ r. ⌜ r ≡ gridOfWords n columns words ⌝ }
+pub fn grid_of_words(n: usize, words: [u16; 8]) -> [[bool; 8]; 12]
+    requires { ⌜ (5 ≤ n) × (n ≤ 12) ⌝ }
+    ensures { λ r. ⌜ r ≡ gridOfWords n words ⌝ }
 {
-    let plain = columns_of_words(n, columns, words);
+    let plain = columns_of_words(n, words);
     let mut g = [[false; 8]; 12];
     for i in 0..12usize {
         set_row(&plain, i, &mut g[i]);
@@ -199,15 +168,4 @@ pub fn codeword_of_grid(columns: usize, g: &[[bool; 8]; 12], i: usize) -> u8
     ensures { λ r. ⌜ r ≡ codewordOfGrid columns (now (g .entry)) i ⌝ }
 {
     low_bits(columns, codeword_of_row(&g[i]))
-}
-
-pub fn codewords_of_grid(n: usize, columns: usize, g: [[bool; 8]; 12]) -> [u8; 12]
-    requires { ⌜ Size n columns ⌝ }
-    ensures { λ r. ⌜ r ≡ codewordsOfGrid n columns g ⌝ }
-{
-    let mut codewords = [0u8; 12];
-    for i in 0..n {
-        codewords[i] = codeword_of_grid(columns, &g, i);
-    }
-    codewords
 }

@@ -1,7 +1,8 @@
 -- Laws of the payload checksum.
 -- Assumes nothing.
-use mathlib.Core.Path.{_≡_, refl, sym, ap, _∙_}
-use mathlib.Core.List.{List, [], _∷_, _++_}
+use mathlib.Core.Bool.{cond}
+use mathlib.Core.Path.{_≡_, sym, ap, _∙_}
+use mathlib.Core.List.{List, [], _∷_}
 use Prim.Native.Nat.{ℕ, zero, suc, _+_, _*_, _/_, _%_, _^_, _<_, _≤_}
 use native.Mathlib.Nat.{add-assoc, mul-comm, mul-assoc, add-mul, pow-suc, zero-div}
 use native.Mathlib.Decide.{decLt}
@@ -15,17 +16,17 @@ use lib.Dec.{ltb}
 use lib.Pow.{pow-pos, pow-mono}
 use lib.Bits.{bitXor, xor-shr, xor-zero-r, xor-shifted, xor-block}
 use Rattle.bits.specs.Bit.{bit}
-use Rattle.bits.specs.Pick.{pick}
 use Rattle.bits.proofs.Bits.{bit-lt}
 use Rattle.bits.proofs.Xor.{xor-swap}
-use Rattle.checksum.specs.Checksum.{divisor, reduced, oneBit, lowBits, oneByte, entry, remainder, checksum}
+use Rattle.checksum.specs.Checksum.{divisor, reduced, oneBit, lowBits, oneByte, remainder, checksum}
+use Rattle.checksum.specs.Table.{entry}
 
 -- a polynomial of degree 16 at most has a remainder of 16 bits: the divisor takes its top coefficient away
-pub reduced-lt : (p : ℕ) → p < 131072 → reduced p < 65536
+reduced-lt : (p : ℕ) → p < 131072 → reduced p < 65536
 unfolding reduced divisor
 reduced-lt p h = go (decLt p 65536)
   where
-    go : Dec (p < 65536) → pick (ltb p 65536) p (bitXor p divisor) < 65536
+    go : Dec (p < 65536) → cond (ltb p 65536) p (bitXor p divisor) < 65536
     go (yes low) = rw (lt-ltb p 65536 low) low
     go (no high) =
         let big : 65536 ≤ p = omega arith in
@@ -34,18 +35,18 @@ reduced-lt p h = go (decLt p 65536)
         rw (le-ltb p 65536 big) (omega arith)
 
 -- after one more bit a remainder still has 16 bits
-pub oneBit-lt : (r b : ℕ) → r < 65536 → b < 2 → oneBit r b < 65536
+oneBit-lt : (r b : ℕ) → r < 65536 → b < 2 → oneBit r b < 65536
 unfolding oneBit
 oneBit-lt r b h l = reduced-lt (r * 2 + b) (omega arith)
 
 -- and so after some bits of a byte
-pub lowBits-lt : (k r byte : ℕ) → r < 65536 → lowBits k r byte < 65536
+lowBits-lt : (k r byte : ℕ) → r < 65536 → lowBits k r byte < 65536
 unfolding lowBits
 lowBits-lt zero r byte h = h
 lowBits-lt (suc k) r byte h = lowBits-lt k _ byte (oneBit-lt r _ h (bit-lt _ byte))
 
 -- and so after some bytes
-pub remainder-lt : (r : ℕ) (bytes : List ℕ) → r < 65536 → remainder r bytes < 65536
+remainder-lt : (r : ℕ) (bytes : List ℕ) → r < 65536 → remainder r bytes < 65536
 unfolding remainder oneByte
 remainder-lt r [] h = h
 remainder-lt r (byte ∷ bytes) h = remainder-lt _ bytes (lowBits-lt 8 r byte h)
@@ -55,28 +56,22 @@ pub checksum-lt : (payload : List ℕ) → checksum payload < 65536
 unfolding checksum
 checksum-lt payload = remainder-lt 0 payload (omega arith)
 
--- the remainder after two lists is that after the second from that after the first
-pub remainder-append : (r : ℕ) (xs ys : List ℕ) → remainder r (xs ++ ys) ≡ remainder (remainder r xs) ys
-unfolding remainder
-remainder-append r [] ys = refl
-remainder-append r (x ∷ xs) ys = remainder-append (oneByte r x) xs ys
-
 -- what has no top coefficient does not change whether the divisor goes in
-pub reduced-xor : (p q : ℕ) → q < 65536 → reduced (bitXor p q) ≡ bitXor (reduced p) q
+reduced-xor : (p q : ℕ) → q < 65536 → reduced (bitXor p q) ≡ bitXor (reduced p) q
 unfolding reduced
 reduced-xor p q h = go (decLt p 65536)
   where
     top : bitXor p q / 65536 ≡ p / 65536
     top = let none : q / 65536 ≡ 0 = omega arith in xor-shr p q 16 ∙ ap (bitXor (p / 65536)) none ∙ xor-zero-r (p / 65536)
 
-    go : Dec (p < 65536) → pick (ltb (bitXor p q) 65536) (bitXor p q) (bitXor (bitXor p q) divisor) ≡ bitXor (pick (ltb p 65536) p (bitXor p divisor)) q
+    go : Dec (p < 65536) → cond (ltb (bitXor p q) 65536) (bitXor p q) (bitXor (bitXor p q) divisor) ≡ bitXor (cond (ltb p 65536) p (bitXor p divisor)) q
     go (yes low) = rw (lt-ltb p 65536 low, lt-ltb (bitXor p q) 65536 (omega (arith, top)))
     go (no high) =
         let big : 65536 ≤ p = omega arith in
         rw (le-ltb p 65536 big, le-ltb (bitXor p q) 65536 (omega (arith, top))) (xor-swap p q divisor)
 
 -- one bit is linear: what does not reach the top is doubled, and the bit comes in below
-pub oneBit-xor : (r s b : ℕ) → s < 32768 → b < 2 → oneBit (bitXor r s) b ≡ bitXor (oneBit r 0) (s * 2 + b)
+oneBit-xor : (r s b : ℕ) → s < 32768 → b < 2 → oneBit (bitXor r s) b ≡ bitXor (oneBit r 0) (s * 2 + b)
 unfolding oneBit
 oneBit-xor r s b h l =
     ap reduced (sym (xor-block 1 r s 0 b (omega arith) l)) ∙ reduced-xor (r * 2 + 0) (s * 2 + b) (omega arith)
@@ -94,7 +89,7 @@ unfolding bit
 bit-zero k = rw zero-div
 
 -- k bits are linear: s, of j bits, does not reach the top, and goes up k places; the byte's k lowest bits come in below
-pub lowBits-xor : (k j r s byte : ℕ) → j + k ≤ 16 → s < 2 ^ j → lowBits k (bitXor r s) byte ≡ bitXor (lowBits k r 0) (s * 2 ^ k + byte % 2 ^ k)
+lowBits-xor : (k j r s byte : ℕ) → j + k ≤ 16 → s < 2 ^ j → lowBits k (bitXor r s) byte ≡ bitXor (lowBits k r 0) (s * 2 ^ k + byte % 2 ^ k)
 unfolding lowBits
 lowBits-xor zero j r s byte h l =
     let same : s ≡ s * 1 + byte % 1 = omega arith in

@@ -1,19 +1,19 @@
 -- Document 01, "Payload checksum".
 -- Assumes nothing.
+use mathlib.Core.Bool.{cond}
 use mathlib.Core.List.{List, [], _∷_}
-use Prim.Native.Nat.{ℕ, zero, suc, _+_, _*_}
+use Prim.Native.Nat.{ℕ, zero, suc, _+_, _*_, _^_}
 use lib.Bits.{bitXor}
 use lib.Dec.{ltb}
 use Rattle.bits.specs.Bit.{bit}
-use Rattle.bits.specs.Pick.{pick}
 
 -- a polynomial mod 2 is the number of its coefficients; this is x^16 + x^12 + x^5 + 1
 unfoldable pub divisor : ℕ
-divisor = 69665
+divisor = 2 ^ 16 + 2 ^ 12 + 2 ^ 5 + 1
 
 -- a polynomial of degree 16 at most less the divisor where that goes into it
 unfoldable pub reduced : ℕ → ℕ
-reduced p = pick (ltb p 65536) p (bitXor p divisor)
+reduced p = cond (ltb p 65536) p (bitXor p divisor)
 
 -- the remainder of p x + b, from the remainder r of p
 unfoldable pub oneBit : ℕ → ℕ → ℕ
@@ -35,7 +35,3 @@ remainder r (byte ∷ bytes) = remainder (oneByte r byte) bytes
 -- the remainder of the whole payload; the empty one has 0
 unfoldable pub checksum : List ℕ → ℕ
 checksum payload = remainder 0 payload
-
--- what a remainder's upper byte h becomes as a byte more comes in: the remainder of h x^16
-unfoldable pub entry : ℕ → ℕ
-entry h = oneByte (h * 256) 0

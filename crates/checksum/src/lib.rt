@@ -1,7 +1,8 @@
 // The payload checksum.
 ghost use mathlib.Core.Path.{_≡_};
 ghost use Rattle.bits.specs.Tab.{tab};
-ghost use Rattle.checksum.specs.Checksum.{oneByte, entry, checksum};
+ghost use Rattle.checksum.specs.Checksum.{oneByte, checksum};
+ghost use Rattle.checksum.specs.Table.{entry};
 
 // At the place h the remainder of h x^16.
 const TABLE: [u16; 256] = [

@@ -3,10 +3,10 @@
 use mathlib.Core.Path.{_≡_, refl, ap}
 use mathlib.Core.Bool.{Bool, true, false}
 use lib.Dec.{T, eqb, eqb→eq}
-use Rattle.codeword.specs.declared.Heard.{Heard}
-use Rattle.codeword.specs.declared.Heard.the-variants.{Taken, Repaired, Unreadable}
+use Rattle.codeword.specs.declared.Found.{Found}
+use Rattle.codeword.specs.declared.Found.the-variants.{Taken, Repaired, Unreadable}
 
-unfoldable pub alike : Heard → Heard → Bool
+unfoldable pub alike : Found → Found → Bool
 alike (Taken m) (Taken n) = eqb m n
 alike (Taken m) (Repaired n) = false
 alike (Taken m) Unreadable = false
@@ -17,7 +17,7 @@ alike Unreadable (Taken n) = false
 alike Unreadable (Repaired n) = false
 alike Unreadable Unreadable = true
 
-pub alike→eq : (r s : Heard) → T (alike r s) → r ≡ s
+pub alike→eq : (r s : Found) → T (alike r s) → r ≡ s
 unfolding alike
 alike→eq (Taken m) (Taken n) t = ap Taken (eqb→eq m n t)
 alike→eq (Taken m) (Repaired n) t = absurd t

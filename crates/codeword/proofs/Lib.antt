@@ -1,3 +1,4 @@
 pub mod Alike
 pub mod CodeLaws
+pub mod EveryWord
 pub mod Lookup

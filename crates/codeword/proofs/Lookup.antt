@@ -1,99 +1,73 @@
--- The rules of the code's two tables, and that a word is read by them as the definition says.
+-- Where a word stands in the table of readings, and what it is read as there.
 -- Assumes nothing.
-use mathlib.Core.Path.{_≡_, ap, _∙_}
+use mathlib.Core.Path.{_≡_, refl, ap, _∙_}
 use mathlib.Core.List.{List, []}
-use Prim.Native.Nat.{ℕ, suc, _+_, _-_, _*_, _/_, _%_, _^_, _≤_, _<_}
-use native.Mathlib.Nat.{lt-of-lt-of-le}
+use Prim.Native.Nat.{ℕ, zero, suc, _+_, _-_, _*_, _/_, _%_, _^_, _≤_, _<_}
+use native.Mathlib.Nat.{pow-le-pow-right}
 use native.Mathlib.Omega.{arith}
-use borrow.Author.Tests.{eq-eqb, ne-eqb, lt-ltb, le-ltb}
-use lib.Bits.{bitXor, xor-lt}
-use lib.Dec.{T, eqb, ltb}
+use borrow.Author.Tests.{lt-ltb, le-ltb}
 use lib.ListN.{getD}
-use lib.Pow.{pow-mono}
-use Rattle.bits.specs.Bit.{bit, number}
-use Rattle.bits.specs.Pick.{pick}
-use Rattle.bits.specs.Search.{first, howMany}
 use Rattle.bits.specs.Tab.{tab}
-use Rattle.bits.proofs.Every.{both, every, at}
 use Rattle.bits.proofs.Tabs.{getD-tab}
-use Rattle.codeword.specs.Codeword.{parity, parityOfAll, parityBit, codewordBit, codeword, apart, nibbleAway, repairOf, readAs, Rate}
-use Rattle.codeword.specs.declared.Heard.{Heard}
-use Rattle.codeword.specs.declared.Heard.the-variants.{Taken, Repaired, Unreadable}
-use Rattle.codeword.proofs.Alike.{alike, alike→eq}
-use Rattle.codeword.proofs.CodeLaws.{codeword-lt}
+use Rattle.codeword.specs.Codeword.{readAs, nibbleOf}
+use Rattle.codeword.specs.Ranges.{Rate}
+use Rattle.codeword.specs.Readings.{numberOfFound, readingOf, readingAt, readingTable}
+use Rattle.codeword.specs.declared.Found.{Found}
+use Rattle.codeword.specs.declared.Found.the-variants.{Taken, Repaired, Unreadable}
+use Rattle.codeword.proofs.CodeLaws.{nibble-lt}
 
--- a table with a line of 16 entries for each rate
-unfoldable pub lines : (ℕ → ℕ → ℕ) → List (List ℕ)
-lines f = tab 4 (λ r. tab 16 (λ k. f (r + 1) k))
+-- the place of a word in the table
+unfoldable pub placeOf : ℕ → ℕ → ℕ
+placeOf cr w = 2 ^ (4 + cr) - 32 + w
 
--- its entry is found in the rate's line
-pub getD-lines : (f : ℕ → ℕ → ℕ) (cr k i j : ℕ) → Rate cr → k < 16 → i ≡ cr - 1 → j ≡ k → getD (getD (lines f) i []) j 0 ≡ f cr k
-unfolding lines
-getD-lines f cr k i j rate h line place =
-    let e : i + 1 ≡ cr = omega arith in
-    let found : getD (tab 4 (λ (r : ℕ). tab 16 (λ (n : ℕ). f (r + 1) n))) i [] ≡ tab 16 (λ (n : ℕ). f (i + 1) n) = getD-tab 4 _ i [] (omega arith) in
-    ap (λ (l : List ℕ). getD l j 0) found ∙ getD-tab 16 (λ (n : ℕ). f (i + 1) n) j 0 (omega arith) ∙ rw (e, place)
+-- no rate has fewer words than the 32 of CR 1
+pub power-le : {cr : ℕ} → Rate cr → 32 ≤ 2 ^ (4 + cr)
+power-le {cr} rate = pow-le-pow-right {n = 2} (omega arith) {i = 5} {j = 4 + cr} (omega (arith, rate .low))
 
--- the parities of a nibble, as a number
-unfoldable pub paritiesOf : ℕ → ℕ → ℕ
-paritiesOf cr d = codeword cr d / 16
+-- the reading at the place is the word's
+reading-at : (cr w k : ℕ) → Rate cr → w < 2 ^ (4 + cr) → k + 32 ≡ 2 ^ (4 + cr) + w → (readingAt k ≡ readingOf cr w) × (k < 480)
+unfolding readingAt
+reading-at zero w k r h e = absurd (omega (arith, r .low))
+reading-at (suc zero) w k r h e = (rw (lt-ltb k 32 (omega arith)) (ap (readingOf 1) (omega arith)), omega arith)
+reading-at (suc (suc zero)) w k r h e = (rw (le-ltb k 32 (omega arith), lt-ltb k 96 (omega arith)) (ap (readingOf 2) (omega arith)), omega arith)
+reading-at (suc (suc (suc zero))) w k r h e =
+    (rw (le-ltb k 32 (omega arith), le-ltb k 96 (omega arith), lt-ltb k 224 (omega arith)) (ap (readingOf 3) (omega arith)), omega arith)
+reading-at (suc (suc (suc (suc zero)))) w k r h e =
+    (rw (le-ltb k 32 (omega arith), le-ltb k 96 (omega arith), le-ltb k 224 (omega arith)) (ap (readingOf 4) (omega arith)), omega arith)
+reading-at (suc (suc (suc (suc (suc cr))))) w k r h e = absurd (omega (arith, r .high))
 
--- there are at most four of them
-pub parities-lt : (cr d : ℕ) → Rate cr → codeword cr d / 16 < 16
-parities-lt cr d rate =
-    let fits : 4 + cr ≤ 8 = omega arith in
-    let small : codeword cr d < 256 = lt-of-lt-of-le (codeword-lt cr d) (pow-mono fits) in
-    omega arith
+-- the place k of a word w at a rate
+module _ {cr w k : ℕ} (rate : Rate cr) (word : w < 2 ^ (4 + cr)) (at : k ≡ placeOf cr w) where
+  behind : k + 32 ≡ 2 ^ (4 + cr) + w
+  unfolding placeOf
+  behind = omega (arith, power-le rate)
 
--- what is flipped in a nibble 0 so that it becomes the one read; 9 where it can't be read
-unfoldable pub flip : Heard → ℕ
-flip (Taken d) = d
-flip (Repaired d) = d
-flip Unreadable = 9
+  pub place-lt : k < 480
+  place-lt = reading-at cr w k rate word behind .1
 
--- the flip for parities that are wrong by s: that of the word with the nibble 0 and the parities s
-unfoldable pub mendOf : ℕ → ℕ → ℕ
-mendOf cr s = pick (ltb s (2 ^ cr)) (flip (readAs cr (16 * s))) 9
+  -- the entry found there
+  pub entry-is : {table : List (List ℕ)} → table ≡ readingTable → getD (getD table (k / 8) []) (k % 8) 0 ≡ readingOf cr w
+  unfolding readingTable
+  entry-is {table} t =
+      let line : getD (tab 60 (λ (i : ℕ). tab 8 (λ (j : ℕ). readingAt (8 * i + j)))) (k / 8) [] ≡ tab 8 (λ (j : ℕ). readingAt (8 * (k / 8) + j)) =
+      getD-tab 60 _ (k / 8) [] (omega (arith, place-lt)) in
+      let e : 8 * (k / 8) + k % 8 ≡ k = omega arith in
+      ap (λ (l : List (List ℕ)). getD (getD l (k / 8) []) (k % 8) 0) t ∙ ap (λ (l : List ℕ). getD l (k % 8) 0) line
+      ∙ getD-tab 8 (λ (j : ℕ). readingAt (8 * (k / 8) + j)) (k % 8) 0 (omega arith) ∙ ap readingAt e ∙ reading-at cr w k rate word behind .0
 
--- by how much the parities of a word are wrong
-unfoldable pub wrongOf : ℕ → ℕ → ℕ
-wrongOf cr w = bitXor (codeword cr (w % 16) / 16) (w / 16)
+-- what a number is the reading of
+module _ (cr w : ℕ) {e : ℕ} (entry : e ≡ readingOf cr w) where
+  by-number : (f : Found) → nibbleOf f < 16 → e ≡ numberOfFound f
+      → (e < 16 → Taken e ≡ f) × (16 ≤ e → e < 32 → Repaired (e - 16) ≡ f) × (32 ≤ e → Unreadable ≡ f)
+  by-number (Taken d) l p = (λ h. ap Taken p, λ h i. absurd (omega arith), λ h. absurd (omega arith))
+  by-number (Repaired d) l p = (λ h. absurd (omega arith), λ h i. ap Repaired (omega arith), λ h. absurd (omega arith))
+  by-number Unreadable l p = (λ h. absurd (omega arith), λ h i. absurd (omega arith), λ h. refl)
 
--- what a word with this nibble, this wrong and this flip is read as
-abbrev heardBy : ℕ → ℕ → ℕ → Heard
-heardBy d s m = pick (eqb s 0) (Taken d) (pick (ltb m 9) (Repaired (bitXor d m)) Unreadable)
+  pub read-taken : e < 16 → Taken e ≡ readAs cr w
+  read-taken = by-number (readAs cr w) (nibble-lt cr w) entry .0
 
--- that number, by the parities of the word's nibble
-pub wrong-is : (cr w p : ℕ) → p ≡ codeword cr (w % 16) / 16 → bitXor p (w / 16) ≡ wrongOf cr w
-unfolding wrongOf
-wrong-is cr w p e = rw e
+  pub read-repaired : 16 ≤ e → e < 32 → Repaired (e - 16) ≡ readAs cr w
+  read-repaired = by-number (readAs cr w) (nibble-lt cr w) entry .1
 
-pub wrong-lt : (cr w : ℕ) → Rate cr → w < 2 ^ (4 + cr) → wrongOf cr w < 16
-unfolding wrongOf
-wrong-lt cr w rate h =
-    let fits : 4 + cr ≤ 8 = omega arith in
-    let small : w < 256 = lt-of-lt-of-le h (pow-mono fits) in
-    xor-lt 4 _ _ (parities-lt cr (w % 16) rate) (omega arith)
-
--- THE TEST, at every rate and word
-rates : T (every 4 (λ r. every (2 ^ (5 + r)) (λ w. alike (heardBy (w % 16) (wrongOf (suc r) w) (mendOf (suc r) (wrongOf (suc r) w))) (readAs (suc r) w))))
-unfolding every both alike flip mendOf wrongOf readAs repairOf nibbleAway first apart howMany codeword codewordBit parityBit parityOfAll parity bit number
-rates = tt
-
-module _ (cr w s m : ℕ) (rate : Rate cr) (word : w < 2 ^ (4 + cr)) (wrong : s ≡ wrongOf cr w) (mend : m ≡ mendOf cr (wrongOf cr w)) where
-  -- a word read by its flip is read as the definition says
-  read-by : heardBy (w % 16) s m ≡ readAs cr w
-  read-by =
-      let e : suc (cr - 1) ≡ cr = omega arith in
-      let p : 5 + (cr - 1) ≡ 4 + cr = omega arith in
-      rw (mend, wrong) (alike→eq _ _ (at (2 ^ (4 + cr)) _ (rw (p, e) at (at 4 _ rates (cr - 1) (omega arith))) w word))
-
-  -- the three ways out of it
-  pub read-taken : s ≡ 0 → Taken (w % 16) ≡ readAs cr w
-  read-taken z = rw (eq-eqb s 0 z) at read-by
-
-  pub read-mended : (s ≡ 0 → ⊥) → m < 9 → Repaired (bitXor (w % 16) m) ≡ readAs cr w
-  read-mended n h = rw (ne-eqb s 0 n, lt-ltb m 9 h) at read-by
-
-  pub read-refused : (s ≡ 0 → ⊥) → 9 ≤ m → Unreadable ≡ readAs cr w
-  read-refused n h = rw (ne-eqb s 0 n, le-ltb m 9 h) at read-by
+  pub read-unreadable : 32 ≤ e → Unreadable ≡ readAs cr w
+  read-unreadable = by-number (readAs cr w) (nibble-lt cr w) entry .2

@@ -1,13 +1,12 @@
 -- Document 01, "Nibbles and codewords". A rate is given by its CR, 1 to 4: 4/5 to 4/8.
 -- Assumes nothing.
-use mathlib.Core.Bool.{Bool, true, false, not}
-use Prim.Native.Nat.{ℕ, zero, suc, _+_, _-_, _%_, _≤_}
+use mathlib.Core.Bool.{Bool, true, false, not, _&&_, cond}
+use Prim.Native.Nat.{ℕ, zero, suc, _+_, _-_, _%_}
 use lib.Dec.{eqb, leb, ltb}
 use Rattle.bits.specs.Bit.{bit, number}
-use Rattle.bits.specs.Pick.{pick}
 use Rattle.bits.specs.Search.{first, howMany}
-use Rattle.codeword.specs.declared.Heard.{Heard}
-use Rattle.codeword.specs.declared.Heard.the-variants.{Taken, Repaired, Unreadable}
+use Rattle.codeword.specs.declared.Found.{Found}
+use Rattle.codeword.specs.declared.Found.the-variants.{Taken, Repaired, Unreadable}
 
 -- the parities p0 to p3 of a nibble of the bits d0 to d3, sums mod 2
 unfoldable pub parity : ℕ → ℕ → ℕ
@@ -22,11 +21,11 @@ parityOfAll d = (bit 0 d + bit 1 d + bit 2 d + bit 3 d) % 2
 
 -- CR 1 adds one bit; CR 2 adds p0 p1, CR 3 p0 p1 p2, CR 4 p0 to p3
 unfoldable pub parityBit : ℕ → ℕ → ℕ → ℕ
-parityBit cr d k = pick (eqb cr 1) (parityOfAll d) (parity k d)
+parityBit cr d k = cond (eqb cr 1) (parityOfAll d) (parity k d)
 
 -- a codeword's bits 0 to 3 are d0 to d3; parity starts at bit 4
 unfoldable pub codewordBit : ℕ → ℕ → ℕ → ℕ
-codewordBit cr d j = pick (ltb j 4) (bit j d) (parityBit cr d (j - 4))
+codewordBit cr d j = cond (ltb j 4) (bit j d) (parityBit cr d (j - 4))
 
 unfoldable pub codeword : ℕ → ℕ → ℕ
 codeword cr d = number (4 + cr) (codewordBit cr d)
@@ -35,36 +34,26 @@ codeword cr d = number (4 + cr) (codewordBit cr d)
 unfoldable pub apart : ℕ → ℕ → ℕ → ℕ
 apart cr v w = howMany (λ j. not (eqb (bit j v) (bit j w))) (4 + cr)
 
--- the nibble whose codeword is so many bits away from the word; 16 where there is none
-unfoldable pub nibbleAway : ℕ → ℕ → ℕ → ℕ
-nibbleAway away cr w = first (λ d. eqb (apart cr w (codeword cr d)) away) 16 0
+-- what a word of CR + 4 bits is read as: found in the code it is taken; at CR 3 and 4 a word one bit away from a codeword
+-- is repaired to it; else it can't be read. `away n` is the nibble whose codeword is n bits away, 16 where there is none;
+-- that there is at most one is proved in proofs/CodeLaws.antt, `one-taken` and `one-repaired`
+unfoldable pub readAs : ℕ → ℕ → Found
+readAs cr w =
+    let away : ℕ → ℕ = λ n. first (λ d. eqb (apart cr w (codeword cr d)) n) 16 0 in
+    cond (ltb (away 0) 16) (Taken (away 0)) (cond (leb 3 cr && ltb (away 1) 16) (Repaired (away 1)) Unreadable)
 
--- at CR 3 and 4 a word one bit away from a codeword is repaired to it; else it can't be read
-unfoldable pub repairOf : ℕ → ℕ → Heard
-repairOf cr w =
-    pick (leb 3 cr) (pick (ltb (nibbleAway 1 cr w) 16) (Repaired (nibbleAway 1 cr w)) Unreadable) Unreadable
-
--- what a word of CR + 4 bits is read as: found in the code it is taken
-unfoldable pub readAs : ℕ → ℕ → Heard
-readAs cr w = pick (ltb (nibbleAway 0 cr w) 16) (Taken (nibbleAway 0 cr w)) (repairOf cr w)
-
--- the nibble that is read, the repairs that this counts as, and whether there is none
-abbrev pub nibbleOf : Heard → ℕ
+-- the nibble that is read, whether it is a repair, and whether there is none
+abbrev pub nibbleOf : Found → ℕ
 nibbleOf (Taken d) = d
 nibbleOf (Repaired d) = d
 nibbleOf Unreadable = 0
 
-abbrev pub isRepaired : Heard → Bool
+abbrev pub isRepaired : Found → Bool
 isRepaired (Taken d) = false
 isRepaired (Repaired d) = true
 isRepaired Unreadable = false
 
-abbrev pub isUnreadable : Heard → Bool
+abbrev pub isUnreadable : Found → Bool
 isUnreadable (Taken d) = false
 isUnreadable (Repaired d) = false
 isUnreadable Unreadable = true
-
--- CR 1 to 4
-pub record Rate (cr : ℕ) : Type 0 where
-  pub low : 1 ≤ cr
-  pub high : cr ≤ 4

@@ -1,1 +1,4 @@
 pub mod Codeword
+pub mod Ranges
+pub mod Readings
+pub mod Rows

@@ -11,15 +11,14 @@ use lib.Bits.{bitXor}
 use lib.Dec.{eqb}
 use lib.ListN.{length, getD, set, List·getD-eq-default}
 use borrow.Author.Tests.{lt-ltb, le-ltb, eq-eqb, ne-eqb}
-use Rattle.bits.specs.Tab.{tab, over, overAt, blank}
+use Rattle.bits.specs.Tab.{over, overAt, blank}
 use Rattle.bits.proofs.Fill.{Filled, filled-on, FilledAt, filledAt-none, filledAt-more, filledAt-on, filledAt-end}
-use Rattle.bits.proofs.Tabs.{length-blank, length-over, getD-tab, getD-over, over-cong}
-use Rattle.block.proofs.TurnLaws.{over-blank}
+use Rattle.bits.proofs.Tabs.{length-blank, length-over, getD-over, over-cong, over-blank, overAt-cong}
 use Rattle.layout.specs.Layout.{dataNibbles}
 use Rattle.layout.proofs.LayoutLaws.{data-le}
-use Rattle.whitening.specs.Whitening.{whitening}
+use Rattle.whitening.specs.Whitening.{whitening, whitened}
 use Rattle.coding.specs.Nibbles.{halfOf, dataByte, dataNibble, bodyNibble, nibbleWith}
-use Rattle.coding.specs.Stages.{whitenedNibble, checksumNibble}
+use Rattle.coding.specs.Stages.{places, nibbleOfBytes, checksumByte}
 
 -- a byte gives two nibbles
 pub two-nibbles : (byte at : ℕ) (d : List ℕ) → at + 2 ≤ length d → set (set d at (byte % 16)) (at + 1) (byte / 16) ≡ overAt at 2 (halfOf byte) d
@@ -28,115 +27,131 @@ two-nibbles byte at d h =
     let one : FilledAt (halfOf byte) d at 1 (set d (at + 0) (byte % 16)) = filledAt-more (filledAt-none _ d at (omega arith)) (omega arith) refl in
     filledAt-end (rw add-zero at (filledAt-more one (omega arith) refl)) refl
 
--- nibbles 2 p and 2 p + 1 are the halves of byte p
-half-of-pair : (byte p i : ℕ) → halfOf byte i ≡ halfOf byte (2 * p + i)
+-- the halves of a byte, two places on
+half-on : (byte p i : ℕ) → halfOf byte i ≡ halfOf byte (2 * p + i)
 unfolding halfOf
-half-of-pair byte p i = let e : (2 * p + i) % 2 ≡ i % 2 = omega arith in rw e
+half-on byte p i = let e : (2 * p + i) % 2 ≡ i % 2 = omega arith in rw e
 
--- one byte more of the payload, whitened by the table
-pub payload-more : {table d l next : List ℕ} (payload : List ℕ) (p : ℕ) → table ≡ tab 255 whitening → p < 255 → 5 + 2 * p + 2 ≤ length d
-    → FilledAt (whitenedNibble payload) d 5 (2 * p) l → next ≡ overAt (5 + 2 * p) 2 (halfOf (bitXor (getD payload p 0) (getD table p 0))) l
-    → FilledAt (whitenedNibble payload) d 5 (2 * (p + 1)) next
-unfolding whitenedNibble
-payload-more {table} {d} {l} {next} payload p t h room filled q =
+-- one byte more
+pub byte-more : {d l next : List ℕ} (byte : ℕ → ℕ) (at p : ℕ) → at + 2 * p + 2 ≤ length d → FilledAt (nibbleOfBytes byte) d at (2 * p) l
+    → next ≡ overAt (at + 2 * p) 2 (halfOf (byte p)) l → FilledAt (nibbleOfBytes byte) d at (2 * (p + 1)) next
+unfolding nibbleOfBytes
+byte-more byte at p room filled q =
     let s : 2 * (p + 1) ≡ 2 * p + 2 = omega arith in
-    rw s (filledAt-on filled room (rw (t, getD-tab 255 whitening p 0 h) at q) half)
+    rw s (filledAt-on filled room q half)
   where
-    half : (i : ℕ) → i < 2 → halfOf (bitXor (getD payload p 0) (whitening p)) i ≡ whitenedNibble payload (2 * p + i)
-    half i l = let e : (2 * p + i) / 2 ≡ p = omega arith in rw e (half-of-pair _ p i)
+    half : (i : ℕ) → i < 2 → halfOf (byte p) i ≡ nibbleOfBytes byte (2 * p + i)
+    half i l = let e : (2 * p + i) / 2 ≡ p = omega arith in rw e (half-on _ p i)
+
+-- the payload's bytes copied, whitened and put
+pub payload-put : {bytes white next : List ℕ} (payload : List ℕ) (at : ℕ) (d e : List ℕ) → bytes ≡ over (length payload) (λ i. getD payload i 0) e
+    → white ≡ over (length payload) (whitened bytes) bytes → next ≡ overAt at (2 * length payload) (nibbleOfBytes (λ p. getD white p 0)) d
+    → next ≡ overAt at (2 * length payload) (nibbleOfBytes (whitened payload)) d
+unfolding nibbleOfBytes
+payload-put {bytes} {white} payload at d e copied turned q =
+    q ∙ overAt-cong at (2 * length payload) _ _ d (λ i h. ap (λ (x : ℕ). halfOf x i) (same (i / 2) (omega arith)))
+  where
+    same : (p : ℕ) → p < length payload → getD white p 0 ≡ whitened payload p
+    same p h =
+        let byte : getD bytes p 0 ≡ getD payload p 0 = rw copied (getD-over (length payload) (λ i. getD payload i 0) e p 0 h) in
+        rw turned (getD-over (length payload) (whitened bytes) bytes p 0 h ∙ ap (λ (x : ℕ). bitXor x (whitening p)) byte)
 
 -- the checksum's bytes, low byte first
-pub checksum-put : {l next : List ℕ} (sum at : ℕ) (d : List ℕ) → at + 4 ≤ length d → l ≡ overAt at 2 (halfOf (sum % 256)) d
-    → next ≡ overAt (at + 2) 2 (halfOf (sum / 256)) l → next ≡ overAt at 4 (checksumNibble sum) d
-unfolding checksumNibble
-checksum-put {l} {next} sum at d room one two =
-    let start : l ≡ overAt (at + 0) 2 (halfOf (sum % 256)) d = rw add-zero one in
-    filledAt-end (filledAt-on (filledAt-on (filledAt-none (checksumNibble sum) d at (omega arith)) (omega arith) start low) (omega arith) two high) refl
-  where
-    low : (i : ℕ) → i < 2 → halfOf (sum % 256) i ≡ checksumNibble sum (0 + i)
-    low i l = let e : (0 + i) / 2 ≡ 0 = omega arith in rw e (half-of-pair _ 0 i)
-
-    high : (i : ℕ) → i < 2 → halfOf (sum / 256) i ≡ checksumNibble sum (2 + i)
-    high i l = let e : (2 + i) / 2 ≡ 1 = omega arith in rw e (half-of-pair _ 1 i)
+pub checksum-put : {l next : List ℕ} (checksum at : ℕ) (d : List ℕ) → at + 4 ≤ length d → l ≡ overAt at 2 (halfOf (checksum % 256)) d
+    → next ≡ overAt (at + 2) 2 (halfOf (checksum / 256)) l → next ≡ overAt at 4 (nibbleOfBytes (checksumByte checksum)) d
+unfolding checksumByte
+checksum-put {l} {next} checksum at d room one two =
+    let start : l ≡ overAt (at + 0) 2 (halfOf (checksum % 256)) d = rw add-zero one in
+    let byte : ℕ → ℕ = checksumByte checksum in
+    filledAt-end (byte-more byte at 1 (omega arith) (byte-more byte at 0 (omega arith) (filledAt-none _ d at (omega arith)) start) two) refl
 
 -- the nibbles of a frame with this header, payload, checksum and checksum flag, laid out in d
-module _ (header payload : List ℕ) (sum : ℕ) (flag : Bool) (five : length header ≡ 5) where
-  at-header : (i : ℕ) → i < 5 → getD header i 0 ≡ nibbleWith header payload sum flag i
+module _ (header payload : List ℕ) (checksum : ℕ) (flag : Bool) where
+  -- nibble i, and the numbers of the payload's nibbles and of all of them
+  abbrev nibble : ℕ → ℕ
+  nibble = nibbleWith header payload checksum flag
+
+  abbrev behind : ℕ
+  behind = length header + 2 * length payload
+
+  abbrev count : ℕ
+  count = length header + dataNibbles (length payload) flag
+
+  at-header : (i : ℕ) → i < length header → getD header i 0 ≡ nibble i
   unfolding nibbleWith
-  at-header i h = rw (five, lt-ltb i 5 h)
+  at-header i h = rw (lt-ltb i (length header) h)
 
   -- behind the header
-  at-body : (i : ℕ) → bodyNibble payload sum flag i ≡ nibbleWith header payload sum flag (5 + i)
+  at-body : (i : ℕ) → bodyNibble payload checksum flag i ≡ nibble (length header + i)
   unfolding nibbleWith
-  at-body i = let e : 5 + i - 5 ≡ i = omega arith in rw (five, le-ltb (5 + i) 5 (omega arith), e)
+  at-body i = let e : length header + i - length header ≡ i = omega arith in rw (le-ltb (length header + i) (length header) (omega arith), e)
 
   -- the payload is data
   data-more : 2 * length payload ≤ dataNibbles (length payload) flag
   unfolding dataNibbles
   data-more = omega arith
 
-  at-payload : (i : ℕ) → i < 2 * length payload → whitenedNibble payload i ≡ nibbleWith header payload sum flag (5 + i)
-  unfolding whitenedNibble bodyNibble dataNibble dataByte
+  at-payload : (i : ℕ) → i < 2 * length payload → nibbleOfBytes (whitened payload) i ≡ nibble (length header + i)
+  unfolding nibbleOfBytes bodyNibble dataNibble dataByte
   at-payload i h =
       rw (← at-body i, lt-ltb i (dataNibbles (length payload) flag) (omega (arith, data-more)), lt-ltb (i / 2) (length payload) (omega arith))
 
   -- what lies behind the data is a filler
-  at-filler : (i : ℕ) → 5 + dataNibbles (length payload) flag ≤ i → nibbleWith header payload sum flag i ≡ 0
+  at-filler : (i : ℕ) → count ≤ i → nibble i ≡ 0
   unfolding nibbleWith bodyNibble
-  at-filler i h = rw (five, le-ltb i 5 (omega arith), le-ltb (i - 5) (dataNibbles (length payload) flag) (omega arith))
+  at-filler i h = rw (le-ltb i (length header) (omega arith), le-ltb (i - length header) (dataNibbles (length payload) flag) (omega arith))
 
-  pub header-laid : {l : List ℕ} (d : List ℕ) → 5 ≤ length d → l ≡ over 5 (λ i. getD header i 0) d → Filled (nibbleWith header payload sum flag) d 5 l
+  pub header-laid : {l : List ℕ} (d : List ℕ) → length header ≤ length d → l ≡ over (length header) (λ i. getD header i 0) d → Filled nibble d (length header) l
   header-laid d h q =
-      let is = q ∙ over-cong 5 _ _ d at-header in
-      record { is = is; long = ap length is ∙ length-over 5 _ d h; within = h }
+      let is = q ∙ over-cong (length header) _ _ d at-header in
+      record { is = is; long = ap length is ∙ length-over (length header) _ d h; within = h }
 
-  pub payload-laid : {d l next : List ℕ} → 5 + 2 * length payload ≤ length d → Filled (nibbleWith header payload sum flag) d 5 l
-      → next ≡ overAt 5 (2 * length payload) (whitenedNibble payload) l → Filled (nibbleWith header payload sum flag) d (5 + 2 * length payload) next
+  pub payload-laid : {d l next : List ℕ} → behind ≤ length d → Filled nibble d (length header) l
+      → next ≡ overAt (length header) (2 * length payload) (nibbleOfBytes (whitened payload)) l → Filled nibble d behind next
   payload-laid h p q = filled-on p h q at-payload
 
+  -- the checksum behind the payload
+  at-checksum : flag ≡ true → (i : ℕ) → i < 4 → nibbleOfBytes (checksumByte checksum) i ≡ nibble (behind + i)
+  unfolding nibbleOfBytes checksumByte bodyNibble dataNibble dataByte dataNibbles
+  at-checksum t i h =
+      let n : ℕ = length payload in
+      let place : length header + 2 * n + i ≡ length header + (2 * n + i) = omega arith in
+      let half : (2 * n + i) / 2 ≡ n + i / 2 = omega arith in
+      rw (place, ← at-body (2 * n + i), t, lt-ltb (2 * n + i) (2 * n + 4) (omega arith), half, le-ltb (n + i / 2) n (omega arith), same (decLt i 2))
+      (half-on _ n i)
+    where
+      same : Dec (i < 2) → eqb (length payload + i / 2) (length payload) ≡ eqb (i / 2) 0
+      same (yes l) = eq-eqb (length payload + i / 2) (length payload) (omega arith) ∙ sym (eq-eqb (i / 2) 0 (omega arith))
+      same (no l) = ne-eqb (length payload + i / 2) (length payload) (λ e. omega arith) ∙ sym (ne-eqb (i / 2) 0 (λ e. omega arith))
+
+  pub checksum-laid : {d l next : List ℕ} → flag ≡ true → behind + 4 ≤ length d → Filled nibble d behind l
+      → next ≡ overAt behind 4 (nibbleOfBytes (checksumByte checksum)) l → Filled nibble d count next
+  unfolding dataNibbles
+  checksum-laid t room p q =
+      let e : count ≡ behind + 4 = rw t (omega arith) in
+      rw e (filled-on p room q (at-checksum t))
+
+  -- no checksum, nothing more
+  pub bare-laid : {d l : List ℕ} → flag ≡ false → Filled nibble d behind l → Filled nibble d count l
+  unfolding dataNibbles
+  bare-laid t p = let e : count ≡ behind = rw t (omega arith) in rw e p
+
+  -- there are places for them
+  count-le : length header ≤ 5 → length payload ≤ 255 → count ≤ places
+  count-le few short = omega (arith, data-le (length payload) flag short)
+
   -- the rest of the list is fillers already
-  pub fillers-laid : {l : List ℕ} (d : List ℕ) → d ≡ blank 532 0 → length payload ≤ 255
-      → Filled (nibbleWith header payload sum flag) d (5 + dataNibbles (length payload) flag) l → l ≡ over 532 (nibbleWith header payload sum flag) d
-  fillers-laid d e short p =
-      p .is ∙ rw e (sym (over-blank (5 + dataNibbles (length payload) flag) 532 _ _ 0 (omega (arith, data-le (length payload) flag short)) (λ i h. refl) (λ i h l. at-filler i h)))
+  pub fillers-laid : {l : List ℕ} (d : List ℕ) → d ≡ blank places 0 → length header ≤ 5 → length payload ≤ 255 → Filled nibble d count l → l ≡ over places nibble d
+  fillers-laid d e few short p =
+      p .is ∙ rw e (sym (over-blank count places _ _ 0 (count-le few short) (λ i h. refl) (λ i h l. at-filler i h)))
 
   -- read at any place, the nibbles laid out are the frame's
-  pub laid-nibbles : {l : List ℕ} → length payload ≤ 255 → l ≡ over 532 (nibbleWith header payload sum flag) (blank 532 0)
-      → (λ i. getD l i 0) ≡ nibbleWith header payload sum flag
-  laid-nibbles {l} short e = fun-ext (λ i. at i (decLt i 532))
+  pub laid-nibbles : {l : List ℕ} → length header ≤ 5 → length payload ≤ 255 → l ≡ over places nibble (blank places 0) → (λ i. getD l i 0) ≡ nibble
+  laid-nibbles {l} few short e = fun-ext (λ i. at i (decLt i places))
     where
-      long : length l ≡ 532
-      long = ap length e ∙ length-over 532 _ (blank 532 0) (omega (arith, length-blank {A = ℕ} 532 0)) ∙ length-blank 532 0
+      long : length l ≡ places
+      long = ap length e ∙ length-over places _ (blank places 0) (omega (arith, length-blank {A = ℕ} places 0)) ∙ length-blank places 0
 
-      at : (i : ℕ) → Dec (i < 532) → getD l i 0 ≡ nibbleWith header payload sum flag i
-      at i (yes h) = rw e (getD-over 532 (nibbleWith header payload sum flag) (blank 532 0) i 0 h)
-      at i (no h) = List·getD-eq-default l 0 {n = i} (omega (arith, long)) ∙ sym (at-filler i (omega (arith, data-le (length payload) flag short)))
-
--- the checksum behind the payload
-at-checksum : (header payload : List ℕ) (sum : ℕ) → length header ≡ 5 → (i : ℕ) → i < 4
-    → checksumNibble sum i ≡ nibbleWith header payload sum true (5 + 2 * length payload + i)
-unfolding checksumNibble bodyNibble dataNibble dataByte dataNibbles
-at-checksum header payload sum five i h =
-    let n : ℕ = length payload in
-    let place : 5 + 2 * n + i ≡ 5 + (2 * n + i) = omega arith in
-    let half : (2 * n + i) / 2 ≡ n + i / 2 = omega arith in
-    rw (place, ← at-body header payload sum true five (2 * n + i), lt-ltb (2 * n + i) (2 * n + 4) (omega arith), half, le-ltb (n + i / 2) n (omega arith), same (decLt i 2))
-    (half-of-pair _ n i)
-  where
-    same : Dec (i < 2) → eqb (length payload + i / 2) (length payload) ≡ eqb (i / 2) 0
-    same (yes l) = eq-eqb (length payload + i / 2) (length payload) (omega arith) ∙ sym (eq-eqb (i / 2) 0 (omega arith))
-    same (no l) = ne-eqb (length payload + i / 2) (length payload) (λ e. omega arith) ∙ sym (ne-eqb (i / 2) 0 (λ e. omega arith))
-
-pub checksum-laid : {d l next : List ℕ} (header payload : List ℕ) (sum : ℕ) (flag : Bool) → flag ≡ true → length header ≡ 5 → 5 + 2 * length payload + 4 ≤ length d
-    → Filled (nibbleWith header payload sum flag) d (5 + 2 * length payload) l → next ≡ overAt (5 + 2 * length payload) 4 (checksumNibble sum) l
-    → Filled (nibbleWith header payload sum flag) d (5 + dataNibbles (length payload) flag) next
-unfolding dataNibbles
-checksum-laid header payload sum flag t five room p q =
-    let e : 5 + (2 * length payload + 4) ≡ 5 + 2 * length payload + 4 = omega arith in
-    rw (t, e) (filled-on (rw t at p) room q (at-checksum header payload sum five))
-
--- no checksum, nothing more
-pub bare-laid : {d l : List ℕ} (header payload : List ℕ) (sum : ℕ) (flag : Bool) → flag ≡ false → Filled (nibbleWith header payload sum flag) d (5 + 2 * length payload) l
-    → Filled (nibbleWith header payload sum flag) d (5 + dataNibbles (length payload) flag) l
-unfolding dataNibbles
-bare-laid header payload sum flag t p = rw (t, add-zero) (rw t at p)
+      at : (i : ℕ) → Dec (i < places) → getD l i 0 ≡ nibble i
+      at i (yes h) = rw e (getD-over places nibble (blank places 0) i 0 h)
+      at i (no h) = List·getD-eq-default l 0 {n = i} (omega (arith, long)) ∙ sym (at-filler i (omega (arith, count-le few short)))

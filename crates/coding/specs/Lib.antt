@@ -1,3 +1,4 @@
 pub mod Nibbles
+pub mod Ranges
 pub mod Stages
 pub mod Symbols

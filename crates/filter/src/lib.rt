@@ -1,58 +1,55 @@
 // The loop that the filters share: standard input in chunks, the answers to standard output, the closing line to standard
 // error. Answers are written out before each read, which might wait.
 ghost use mathlib.Core.Path.{_≡_};
-ghost use mathlib.Core.List.{List};
-ghost use Prim.Native.Nat.{ℕ, _≤_, _<_};
+ghost use Prim.Native.Nat.{_≤_, _<_};
 ghost use lib.ListN.{length};
 ghost use Rattle.line.specs.Put.{Put};
-ghost use Rattle.lines.specs.Stream.{ended, lastSaid, pointOf, SanePiece, Went};
-ghost use Rattle.system.specs.Calls.{Within, Handed};
-ghost use Rattle.filter.specs.Turns.{OnChunk, Follows, Finished, Closing};
+ghost use Rattle.lines.specs.Counts.{closingLine};
+ghost use Rattle.lines.specs.Stream.{ended, lastSaid, pointOf, SanePiece, Ready, Went};
+ghost use Rattle.system.specs.Calls.{Within, Handed, Printing};
+ghost use Rattle.filter.specs.Turns.{OnChunk, Follows, Finished};
 use libc::STDERR_FILENO;
 use libc::STDOUT_FILENO;
 use lines::Counts;
-use lines::Day;
+use lines::Progress;
 use system::Got;
 use system::Sent;
 
 // What a turn came to: the run goes on, the input has ended, a read failed, a write failed. A run that broke off has so many
 // whole answers written, and the system's number for what went wrong.
-pub enum Turn {
-    More(Day),
-    Ended(Day),
+enum Turn {
+    More(Progress),
+    Ended(Progress),
     Unread { answers: usize, error: usize },
     Unwritten { answers: usize, error: usize },
 }
 
-// Hands the waiting bytes to the system.
-fn send(out: &[u8], used: usize) -> Sent
-    requires { ⌜ used ≤ length (now out) ⌝ }
-    ensures { λ r. ⌜ Handed used r ⌝ }
-{
-    system::write_all(STDOUT_FILENO, &out[..used])
-}
-
-// A day after a part of a chunk, the place behind the part, how many bytes answer it, and what became of them.
+// How far a run has come after a part of a chunk, the place behind the part, how many bytes answer it, and what became of them.
 struct Part {
-    day: Day,
+    progress: Progress,
     at: usize,
     used: usize,
     sent: Sent,
 }
 
 // Takes a chunk from a place on, as far as the room for answers goes, and writes the answers out.
-fn answer_part(day: Day, chunk: &[u8], at: usize, numbers: &mut [u16], out: &mut [u8]) -> Part
-    requires { ⌜ SanePiece (day .piece) (now numbers) × (at < length (now chunk)) × (17600 ≤ length (now out)) ⌝ }
-    ensures { λ r. ⌜ Went (pointOf day (now (numbers .entry))) (now (chunk .entry)) at (r .at) 0 (r .used) (r .day) (now (numbers .exit)) (now (out .entry)) (now (out .exit)) × (at < r .at) × Handed (r .used) (r .sent) ⌝ }
+fn answer_part(
+    progress: Progress,
+    chunk: &[u8],
+    at: usize,
+    numbers: &mut [u16],
+    out: &mut [u8],
+) -> Part
+    requires { ⌜ SanePiece (progress .piece) (now numbers) × (at < length (now chunk)) × (17600 ≤ length (now out)) ⌝ }
+    ensures { λ r. ⌜ Went (pointOf progress (now (numbers .entry))) (now (chunk .entry)) at (r .at) 0 (r .used) (r .progress) (now (numbers .exit)) (now (out .entry)) (now (out .exit)) × (at < r .at) × Handed (r .used) (r .sent) ⌝ }
 {
-    let step = lines::take(day, chunk, at, numbers, out);
-    let next = step.day;
-    let used = step.used;
+    let step = lines::take(progress, chunk, at, numbers, out);
+    let next = step.progress;
     Part {
-        day: next,
+        progress: next,
         at: step.at,
-        used,
-        sent: send(out, used),
+        used: step.used,
+        sent: system::write_first(STDOUT_FILENO, out, step.used),
     }
 }
 
@@ -73,11 +70,11 @@ fn whole(before: usize, out: &[u8], sent: Sent) -> usize
 }
 
 // Takes a chunk whole, part by part, unless a write fails.
-fn answer_chunk(day: Day, chunk: &[u8], numbers: &mut [u16], out: &mut [u8]) -> Turn
-    requires { ⌜ SanePiece (day .piece) (now numbers) × (17600 ≤ length (now out)) ⌝ }
-    ensures { λ r. ⌜ OnChunk r (pointOf day (now (numbers .entry))) (now (chunk .entry)) (now (numbers .exit)) ⌝ }
+fn answer_chunk(progress: Progress, chunk: &[u8], numbers: &mut [u16], out: &mut [u8]) -> Turn
+    requires { ⌜ SanePiece (progress .piece) (now numbers) × (17600 ≤ length (now out)) ⌝ }
+    ensures { λ r. ⌜ OnChunk r (pointOf progress (now (numbers .entry))) (now (chunk .entry)) (now (numbers .exit)) ⌝ }
 {
-    let mut so_far = day;
+    let mut so_far = progress;
     let mut at = 0;
     while at < chunk.len() {
         let counts = so_far.counts;
@@ -89,22 +86,28 @@ fn answer_chunk(day: Day, chunk: &[u8], numbers: &mut [u16], out: &mut [u8]) -> 
                 error: sent.error,
             };
         }
-        so_far = part.day;
+        so_far = part.progress;
         at = part.at;
     }
     Turn::More(so_far)
 }
 
 // What a read gave: a chunk is taken, the end is told, a failure makes up no answer.
-fn answer_got(got: Got, day: Day, buffer: &[u8], numbers: &mut [u16], out: &mut [u8]) -> Turn
-    requires { ⌜ Within got (now buffer) × SanePiece (day .piece) (now numbers) × (17600 ≤ length (now out)) ⌝ }
-    ensures { λ r. ⌜ Follows got r day (pointOf day (now (numbers .entry))) (now (buffer .entry)) (now (numbers .exit)) ⌝ }
+fn answer_got(
+    got: Got,
+    progress: Progress,
+    buffer: &[u8],
+    numbers: &mut [u16],
+    out: &mut [u8],
+) -> Turn
+    requires { ⌜ Within got (now buffer) × SanePiece (progress .piece) (now numbers) × (17600 ≤ length (now out)) ⌝ }
+    ensures { λ r. ⌜ Follows r got progress (pointOf progress (now (numbers .entry))) (now (buffer .entry)) (now (numbers .exit)) ⌝ }
 {
     match got {
-        Got::Bytes(n) => answer_chunk(day, &buffer[..n], numbers, out),
-        Got::End => Turn::Ended(day),
+        Got::Bytes(n) => answer_chunk(progress, &buffer[..n], numbers, out),
+        Got::End => Turn::Ended(progress),
         Got::Failed(error) => {
-            let counts = day.counts;
+            let counts = progress.counts;
             Turn::Unread {
                 answers: counts.texts,
                 error,
@@ -114,11 +117,11 @@ fn answer_got(got: Got, day: Day, buffer: &[u8], numbers: &mut [u16], out: &mut 
 }
 
 // Takes all of standard input. A proved loop has to end, so it counts its turns down from a number that no run uses up.
-fn take_all(day: Day, buffer: &mut [u8], numbers: &mut [u16], out: &mut [u8]) -> Turn
-    requires { ⌜ SanePiece (day .piece) (now numbers) × (17600 ≤ length (now out)) ⌝ }
-    ensures { λ r. ⌜ Finished r (pointOf day (now (numbers .entry))) (now (numbers .exit)) ⌝ }
+fn take_all(progress: Progress, buffer: &mut [u8], numbers: &mut [u16], out: &mut [u8]) -> Turn
+    requires { ⌜ SanePiece (progress .piece) (now numbers) × (17600 ≤ length (now out)) ⌝ }
+    ensures { λ r. ⌜ Finished r (pointOf progress (now (numbers .entry))) (now (numbers .exit)) ⌝ }
 {
-    let mut so_far = day;
+    let mut so_far = progress;
     let mut turns = u64::MAX;
     while turns > 0 {
         turns -= 1;
@@ -154,36 +157,35 @@ struct Last {
 }
 
 // Answers the last piece, unless it is empty.
-fn answer_last(day: Day, numbers: &mut [u16], out: &mut [u8]) -> Last
-    requires { ⌜ SanePiece (day .piece) (now numbers) × (17600 ≤ length (now out)) ⌝ }
-    ensures { λ r. ⌜ (r .counts ≡ ended (pointOf day (now (numbers .entry))) .counts) × Put 0 (lastSaid (pointOf day (now (numbers .entry)))) (now (out .entry)) (now (out .exit)) (r .used) × Handed (r .used) (r .sent) ⌝ }
+fn answer_last(progress: Progress, numbers: &mut [u16], out: &mut [u8]) -> Last
+    requires { ⌜ SanePiece (progress .piece) (now numbers) × (17600 ≤ length (now out)) ⌝ }
+    ensures { λ r. ⌜ (r .counts ≡ ended (pointOf progress (now (numbers .entry))) .counts) × Put 0 (lastSaid (pointOf progress (now (numbers .entry)))) (now (out .entry)) (now (out .exit)) (r .used) × Handed (r .used) (r .sent) ⌝ }
 {
-    let closed = lines::finish(day, numbers, out);
-    let used = closed.used;
-    let last = closed.day;
+    let closed = lines::finish(progress, numbers, out);
+    let last = closed.progress;
     let counts = last.counts;
     Last {
         counts,
-        used,
-        sent: send(out, used),
+        used: closed.used,
+        sent: system::write_first(STDOUT_FILENO, out, closed.used),
     }
 }
 
 // The closing line, by which whoever started the run knows that it is whole.
 fn close(counts: Counts, out: &mut [u8]) -> Sent
     requires { ⌜ 100 ≤ length (now out) ⌝ }
-    ensures { λ r. ⌜ Closing counts (now (out .exit)) r ⌝ }
+    ensures { λ r. ⌜ Printing (closingLine counts) (now (out .exit)) r ⌝ }
 {
     let n = lines::closing(counts, out);
-    system::write_all(STDERR_FILENO, &out[..n])
+    system::write_first(STDERR_FILENO, out, n)
 }
 
 // The end of the input: the last piece, and the closing line if all was written.
-fn finish(day: Day, numbers: &mut [u16], out: &mut [u8])
-    requires { ⌜ SanePiece (day .piece) (now numbers) × (17600 ≤ length (now out)) ⌝ }
+fn finish(progress: Progress, numbers: &mut [u16], out: &mut [u8])
+    requires { ⌜ SanePiece (progress .piece) (now numbers) × (17600 ≤ length (now out)) ⌝ }
 {
-    let before = day.counts;
-    let last = answer_last(day, numbers, out);
+    let before = progress.counts;
+    let last = answer_last(progress, numbers, out);
     let sent = last.sent;
     if sent.whole {
         let counts = last.counts;
@@ -194,13 +196,13 @@ fn finish(day: Day, numbers: &mut [u16], out: &mut [u8])
 }
 
 // Answers all of standard input.
-pub fn run(day: Day)
-    requires { ⌜ ((numbers : List ℕ) → length numbers ≡ 834 → SanePiece (day .piece) numbers) ⌝ }
+pub fn run(progress: Progress)
+    requires { ⌜ Ready progress ⌝ }
 {
-    let mut numbers = [0u16; 834];
+    let mut numbers = [0u16; text::NUMBERS];
     let mut buffer = [0u8; 65536];
     let mut out = [0u8; 65536];
-    let turn = take_all(day, &mut buffer, &mut numbers, &mut out);
+    let turn = take_all(progress, &mut buffer, &mut numbers, &mut out);
     match turn {
         Turn::More(_) => {}
         Turn::Ended(last) => {

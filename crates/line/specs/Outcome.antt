@@ -1,11 +1,11 @@
 -- How a text was answered, and the line that answers it in a lent buffer.
 -- Assumes nothing.
+use mathlib.Core.Bool.{cond}
 use mathlib.Core.List.{List}
 use mathlib.Core.Path.{_≡_}
 use Prim.Native.Nat.{ℕ, _≤_}
 use lib.Dec.{eqb}
 use lib.ListN.{length}
-use Rattle.bits.specs.Pick.{pick}
 use Rattle.bits.specs.Tab.{placed}
 use Rattle.lora.specs.declared.Received.{Received}
 use Rattle.lora.specs.declared.Received.the-variants.{Payload, Refused}
@@ -15,7 +15,7 @@ use Rattle.line.specs.declared.Outcome.the-variants.{Clean, Repaired, De
 
 -- accepted with no repairs, accepted with some, refused
 abbrev pub outcomeOf : Received → Outcome
-outcomeOf (Payload len cr flag total repairs) = pick (eqb repairs 0) Clean Repaired
+outcomeOf (Payload a) = cond (eqb (a .repairs) 0) Clean Repaired
 outcomeOf (Refused number place) = Declined
 
 -- the line, of at most so many bytes, stands at the front of the lent buffer; its length and the outcome were answered

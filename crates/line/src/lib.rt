@@ -5,7 +5,7 @@ ghost use Prim.Native.Nat.{_+_, _*_, _≤_, _<_};
 ghost use lib.ListN.{length};
 ghost use Rattle.bits.specs.Bit.{asBit};
 ghost use Rattle.bits.specs.Tab.{placed};
-ghost use Rattle.line.specs.Line.{decimal, field, hexDigit, hex, shown, lineOf};
+ghost use Rattle.line.specs.Line.{decimal, field, hexDigit, hexByte, hex, shown, lineOf};
 ghost use Rattle.line.specs.Outcome.{outcomeOf};
 ghost use Rattle.line.specs.Put.{Put};
 use bits::wide;
@@ -18,6 +18,9 @@ pub enum Outcome {
     Declined,
 }
 
+// Room for the longest line, and more.
+pub const LINE: usize = 640;
+
 // The line that answers a text, in a lent buffer: its length, and how the text was answered.
 pub struct Answer {
     pub length: usize,
@@ -28,14 +31,8 @@ pub fn outcome_of(answer: Received) -> Outcome
     ensures { λ r. ⌜ r ≡ outcomeOf answer ⌝ }
 {
     match answer {
-        Received::Payload {
-            length: _,
-            cr: _,
-            checksum: _,
-            symbols: _,
-            repairs,
-        } => {
-            if repairs == 0 {
+        Received::Payload(a) => {
+            if a.repairs == 0 {
                 Outcome::Clean
             } else {
                 Outcome::Repaired
@@ -93,7 +90,7 @@ fn hex_digit(d: u8) -> u8
 
 fn put_byte(out: &mut [u8], at: usize, b: u8) -> usize
     requires { ⌜ at + 2 ≤ length (now out) ⌝ }
-    ensures { λ r. ⌜ Put at (hex (b ∷ [])) (now (out .entry)) (now (out .exit)) r ⌝ }
+    ensures { λ r. ⌜ Put at (hexByte b) (now (out .entry)) (now (out .exit)) r ⌝ }
 {
     let next = put(out, at, hex_digit(b / 16));
     put(out, next, hex_digit(b % 16))
@@ -152,19 +149,13 @@ pub fn write_line(answer: Received, payload: &[u8], out: &mut [u8]) -> usize
     ensures { λ r. ⌜ (r ≡ length (lineOf answer (now (payload .entry)))) × (now (out .exit) ≡ placed 0 (lineOf answer (now (payload .entry))) (now (out .entry))) ⌝ }
 {
     match answer {
-        Received::Payload {
-            length,
-            cr,
-            checksum,
-            symbols,
-            repairs,
-        } => {
+        Received::Payload(a) => {
             let after_ok = put_word(out, 111, 107);
-            let after_length = put_field(out, after_ok, length);
-            let after_cr = put_field(out, after_length, wide(cr));
-            let after_flag = put_field(out, after_cr, flag(checksum));
-            let after_symbols = put_field(out, after_flag, symbols);
-            let after_repairs = put_field(out, after_symbols, repairs);
+            let after_length = put_field(out, after_ok, a.length);
+            let after_cr = put_field(out, after_length, wide(a.cr));
+            let after_flag = put_field(out, after_cr, flag(a.checked));
+            let after_symbols = put_field(out, after_flag, a.symbols);
+            let after_repairs = put_field(out, after_symbols, a.repairs);
             put_payload(out, after_repairs, payload)
         }
         Received::Refused { number, place } => {

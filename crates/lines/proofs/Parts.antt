@@ -1,23 +1,20 @@
 -- Laws of a part of a list of bytes.
 -- Assumes nothing.
 use mathlib.Core.Path.{_≡_, refl, sym, ap, _∙_}
-use mathlib.Core.Bool.{Bool, true, false, not}
 use mathlib.Core.List.{List, [], _∷_, _++_, append-nil}
 use Prim.Native.Nat.{ℕ, suc, _+_, _-_, _<_, _≤_}
-use native.Mathlib.Nat.{sub-zero, zero-add}
+use native.Mathlib.Nat.{sub-zero, sub-self, zero-add}
 use native.Mathlib.Omega.{arith}
-use borrow.Author.Tests.{ne-eqb}
 use borrow.Rule.Slice.PartMut.{midOf, postOf, putMid}
 use lib.Dec.{eqb}
 use lib.ListN.{length, take, drop, getD, length-append, length-drop, drop-of-length-le}
 use lib.Seq.{take-suc, getD-drop, take-add, drop-drop, length-take-le, take-all}
-use Rattle.bits.specs.Pick.{both}
 use Rattle.bits.specs.Tab.{placed}
 use Rattle.line.specs.Put.{Put}
 use Rattle.bits.specs.Bit.{asBit}
 use Rattle.bits.specs.Search.{howMany}
-use Rattle.bits.proofs.Searches.{howMany-more, asBit-le}
-use Rattle.lines.specs.Stream.{part, clear, lineEnds}
+use Rattle.bits.proofs.Searches.{howMany-more}
+use Rattle.lines.specs.Stream.{part, Clear, lineEnds}
 
 -- one byte more
 pub part-more : (l : List ℕ) (from i : ℕ) → from ≤ i → i < length l → part l from (i + 1) ≡ part l from i ++ (getD l i 0 ∷ [])
@@ -28,13 +25,10 @@ part-more l from i h k =
 
 -- none, and all
 pub part-none : (l : List ℕ) (from : ℕ) → part l from from ≡ []
-part-none l from = let n : from - from ≡ 0 = omega arith in rw n
+part-none l from = rw (sub-self from)
 
 pub part-all : (l : List ℕ) (to : ℕ) → length l ≤ to → part l 0 to ≡ l
 part-all l to h = rw (sub-zero to) (take-all to l h)
-
-pub part-length : (l : List ℕ) (from to : ℕ) → from ≤ to → to ≤ length l → length (part l from to) ≡ to - from
-part-length l from to h k = length-take-le (to - from) (drop from l) (omega (arith, length-drop from l))
 
 -- two parts, one behind the other
 pub part-on : (l : List ℕ) (a b c : ℕ) → a ≤ b → b ≤ c → part l a b ++ part l b c ≡ part l a c
@@ -43,25 +37,15 @@ part-on l a b c h k =
     let m : a + (b - a) ≡ b = omega arith in
     sym (rw (n, take-add (b - a) (c - b) (drop a l), drop-drop (b - a) a l, m))
 
--- no byte yet
-pub clear-none : (l : List ℕ) (from : ℕ) → clear (part l from from) ≡ true
-unfolding clear
-clear-none l from = rw (part-none l from)
+-- no byte yet, and one more that is no line end
+pub clear-none : (l : List ℕ) (from : ℕ) → Clear (part l from from)
+unfolding Clear
+clear-none l from = rw (part-none l from) tt
 
--- a list in which no byte is a line end, and one byte more that is none
-pub clear-more : (l : List ℕ) (b : ℕ) → clear l ≡ true → (b ≡ 10 → ⊥) → clear (l ++ (b ∷ [])) ≡ true
-unfolding clear
-clear-more [] b c n = rw (ne-eqb b 10 n)
-clear-more (a ∷ l) b c n = go (not (eqb a 10)) (λ e. clear-more l b e n) c
-  where
-    go : (t : Bool) → (clear l ≡ true → clear (l ++ (b ∷ [])) ≡ true) → both t (clear l) ≡ true → both t (clear (l ++ (b ∷ []))) ≡ true
-    go true later e = later e
-    go false later e = e
-
--- a list that begins so
-pub clear-head : (t c : Bool) → both (not t) c ≡ true → (t ≡ false) × (c ≡ true)
-clear-head true c e = absurd (let z : _≡_ {A = ℕ} 0 1 = cc in omega arith)
-clear-head false c e = (refl, e)
+pub clear-more : (l : List ℕ) (b : ℕ) → Clear l → (b ≡ 10 → ⊥) → Clear (l ++ (b ∷ []))
+unfolding Clear
+clear-more [] b c n = (n, tt)
+clear-more (a ∷ l) b c n = (c .0, clear-more l b (c .1) n)
 
 -- what was placed at the front of the part from used on is placed in the whole
 pub put-part : {used r : ℕ} {line d e : List ℕ} → used + length line ≤ length d → r ≡ length line → e ≡ placed 0 line (midOf used (length d - used) d)
@@ -86,6 +70,3 @@ ends-none l = refl
 pub ends-more : {ends x : ℕ} (l : List ℕ) (i : ℕ) → ends ≡ lineEnds l i → x ≡ asBit (eqb (getD l i 0) 10) → ends + x ≡ lineEnds l (i + 1)
 unfolding lineEnds
 ends-more l i e f = howMany-more (λ k. eqb (getD l k 0) 10) i e f
-
-pub end-small : {x : ℕ} (b : ℕ) → x ≡ asBit (eqb b 10) → x ≤ 1
-end-small b e = rw e (asBit-le (eqb b 10))

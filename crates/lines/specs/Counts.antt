@@ -1,9 +1,9 @@
 -- How many texts were answered, and how, and the line that says so at the end of a run.
 -- Assumes nothing.
+use mathlib.Core.Bool.{cond}
 use mathlib.Core.List.{List, [], _∷_, _++_}
 use Prim.Native.Nat.{ℕ, _+_}
 use lib.Dec.{ltb}
-use Rattle.bits.specs.Pick.{pick}
 use Rattle.line.specs.Line.{field}
 use Rattle.line.specs.declared.Outcome.{Outcome}
 use Rattle.line.specs.declared.Outcome.the-variants.{Clean, Repaired, Declined}
@@ -15,7 +15,7 @@ none = record { texts = 0; clean = 0; repaired = 0; refused = 0 }
 
 -- one more; a count stands at the largest number of 64 bits
 abbrev pub more : ℕ → ℕ
-more n = pick (ltb n 18446744073709551615) (n + 1) n
+more n = cond (ltb n 18446744073709551615) (n + 1) n
 
 -- a text answered: accepted with no repairs, accepted with some, refused
 abbrev pub counted : Counts → Outcome → Counts

@@ -1,9 +1,9 @@
 -- What the answers to a whole input are: it is cut at each byte 10, and each piece is a text, answered by a line.
 -- Assumes nothing.
+use mathlib.Core.Bool.{cond}
 use mathlib.Core.List.{List, [], _∷_, _++_}
 use Prim.Native.Nat.{ℕ}
 use lib.Dec.{eqb}
-use Rattle.bits.specs.Pick.{pick}
 use Rattle.line.specs.declared.Outcome.{Outcome}
 use Rattle.text.specs.Text as text
 use Rattle.wish.specs.Wish as wish
@@ -18,7 +18,7 @@ pub data Job : Type 0 where
 -- the pieces of an input; an empty last piece is none
 unfoldable pub piecesFrom : List ℕ → List ℕ → List (List ℕ)
 piecesFrom piece [] = text.closed piece
-piecesFrom piece (b ∷ bs) = pick (eqb b 10) (piece ∷ piecesFrom [] bs) (piecesFrom (piece ++ (b ∷ [])) bs)
+piecesFrom piece (b ∷ bs) = cond (eqb b 10) (piece ∷ piecesFrom [] bs) (piecesFrom (piece ++ (b ∷ [])) bs)
 
 unfoldable pub pieces : List ℕ → List (List ℕ)
 pieces input = piecesFrom [] input

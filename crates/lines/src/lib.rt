@@ -9,7 +9,7 @@ ghost use Rattle.line.specs.Outcome.{Answered};
 ghost use Rattle.line.specs.Put.{Put};
 ghost use Rattle.lines.specs.Counts.{none, more, counted, closingLine};
 ghost use Rattle.lines.specs.Lines.{frames as frameJob, wishes as wishJob};
-ghost use Rattle.lines.specs.Stream.{begin, next, ended, lastSaid, startOf, jobOf, runAt, lineAt, outcomeAt, atOf, pointOf, part, SanePiece, PieceHolds, Stands, Ends, TookPart, Went, lineEnds};
+ghost use Rattle.lines.specs.Stream.{next, fed, ended, lastSaid, startOf, jobOf, runAt, lineAt, outcomeAt, atOf, pointOf, part, SanePiece, PieceHolds, Stands, Begins, Ends, Went, lineEnds};
 use line::Answer;
 use line::Outcome;
 
@@ -27,17 +27,17 @@ pub struct Counts {
     pub refused: usize,
 }
 
-// Where a run stands: the open piece, whether it has a byte yet, and the counts of the pieces before it. The numbers of the
+// How far a run has come: the open piece, whether it has a byte yet, and the counts of the pieces before it. The numbers of the
 // open piece stand in a lent list of 834.
-pub struct Day {
+pub struct Progress {
     pub piece: Piece,
     pub begun: bool,
     pub counts: Counts,
 }
 
-// A day, the place in the chunk at which it goes on, and how many bytes of answers wait in the lent buffer.
+// How far a run has come, the place in the chunk at which it goes on, and how many bytes of answers wait in the lent buffer.
 pub struct Step {
-    pub day: Day,
+    pub progress: Progress,
     pub at: usize,
     pub used: usize,
 }
@@ -54,10 +54,10 @@ fn nothing() -> Counts
 }
 
 // A run that reads frames.
-pub fn frames() -> Day
-    ensures { λ r. ⌜ ((numbers : List ℕ) → length numbers ≡ 834 → Stands (begin frameJob) r numbers) ⌝ }
+pub fn frames() -> Progress
+    ensures { λ r. ⌜ Begins frameJob r ⌝ }
 {
-    Day {
+    Progress {
         piece: Piece::Frame(text::begin()),
         begun: false,
         counts: nothing(),
@@ -65,10 +65,10 @@ pub fn frames() -> Day
 }
 
 // A run that makes frames.
-pub fn wishes() -> Day
-    ensures { λ r. ⌜ ((numbers : List ℕ) → length numbers ≡ 834 → Stands (begin wishJob) r numbers) ⌝ }
+pub fn wishes() -> Progress
+    ensures { λ r. ⌜ Begins wishJob r ⌝ }
 {
-    Day {
+    Progress {
         piece: Piece::Wish(wish::begin()),
         begun: false,
         counts: nothing(),
@@ -148,23 +148,23 @@ fn count_in(c: Counts, outcome: Outcome) -> Counts
     }
 }
 
-// A day whose last piece was answered, and how many bytes of answers wait now.
+// How far a run has come when a piece was answered, and how many bytes of answers wait now.
 pub struct Closed {
-    pub day: Day,
+    pub progress: Progress,
     pub used: usize,
 }
 
 // Answers the open piece behind the bytes that wait, and opens the next.
-fn close_piece(day: Day, numbers: &mut [u16], out: &mut [u8], used: usize) -> Closed
-    requires { ⌜ SanePiece (day .piece) (now numbers) × (used + 17600 ≤ length (now out)) ⌝ }
-    ensures { λ r. ⌜ Stands (next (pointOf day (now (numbers .entry)))) (r .day) (now (numbers .exit)) × Put used (lineAt (atOf (day .piece) (now (numbers .entry)))) (now (out .entry)) (now (out .exit)) (r .used) ⌝ }
+fn close_piece(progress: Progress, numbers: &mut [u16], out: &mut [u8], used: usize) -> Closed
+    requires { ⌜ SanePiece (progress .piece) (now numbers) × (used + 17600 ≤ length (now out)) ⌝ }
+    ensures { λ r. ⌜ Stands (next (pointOf progress (now (numbers .entry)))) (r .progress) (now (numbers .exit)) × Put used (lineAt (atOf (progress .piece) (now (numbers .entry)))) (now (out .entry)) (now (out .exit)) (r .used) ⌝ }
 {
-    let piece = day.piece;
-    let counts = day.counts;
+    let piece = progress.piece;
+    let counts = progress.counts;
     let answer = answer_behind(piece, numbers, out, used);
     let outcome = answer.outcome;
     Closed {
-        day: Day {
+        progress: Progress {
             piece: anew(piece),
             begun: false,
             counts: count_in(counts, outcome),
@@ -189,13 +189,19 @@ fn line_end(chunk: &[u8], from: usize) -> usize
 }
 
 // Takes the bytes from at to end into the open piece.
-fn take_part(day: Day, chunk: &[u8], at: usize, end: usize, numbers: &mut [u16]) -> Day
-    requires { ⌜ SanePiece (day .piece) (now numbers) × Ends (now chunk) at end ⌝ }
-    ensures { λ r. ⌜ SanePiece (r .piece) (now (numbers .exit)) × TookPart (pointOf day (now (numbers .entry))) (part (now (chunk .entry)) at end) (pointOf r (now (numbers .exit))) ⌝ }
+fn take_part(
+    progress: Progress,
+    chunk: &[u8],
+    at: usize,
+    end: usize,
+    numbers: &mut [u16],
+) -> Progress
+    requires { ⌜ SanePiece (progress .piece) (now numbers) × Ends (now chunk) at end ⌝ }
+    ensures { λ r. ⌜ Stands (fed (pointOf progress (now (numbers .entry))) (part (now (chunk .entry)) at end)) r (now (numbers .exit)) ⌝ }
 {
-    let piece = day.piece;
-    let counts = day.counts;
-    Day {
+    let piece = progress.piece;
+    let counts = progress.counts;
+    Progress {
         piece: feed(piece, &chunk[at..end], numbers),
         begun: true,
         counts,
@@ -204,30 +210,30 @@ fn take_part(day: Day, chunk: &[u8], at: usize, end: usize, numbers: &mut [u16])
 
 // Takes the chunk from at on up to a line end, and answers the piece that ends there, or all that is left.
 fn take_piece(
-    day: Day,
+    progress: Progress,
     chunk: &[u8],
     at: usize,
     numbers: &mut [u16],
     out: &mut [u8],
     used: usize,
 ) -> Step
-    requires { ⌜ SanePiece (day .piece) (now numbers) × (at < length (now chunk)) × (used + 17600 ≤ length (now out)) ⌝ }
-    ensures { λ r. ⌜ Went (pointOf day (now (numbers .entry))) (now (chunk .entry)) at (r .at) used (r .used) (r .day) (now (numbers .exit)) (now (out .entry)) (now (out .exit)) × (at < r .at) ⌝ }
+    requires { ⌜ SanePiece (progress .piece) (now numbers) × (at < length (now chunk)) × (used + 17600 ≤ length (now out)) ⌝ }
+    ensures { λ r. ⌜ Went (pointOf progress (now (numbers .entry))) (now (chunk .entry)) at (r .at) used (r .used) (r .progress) (now (numbers .exit)) (now (out .entry)) (now (out .exit)) × (at < r .at) ⌝ }
 {
     let end = line_end(chunk, at);
-    let taken = take_part(day, chunk, at, end, numbers);
+    let taken = take_part(progress, chunk, at, end, numbers);
     if end < chunk.len() {
         let next = end + 1;
         let closed = close_piece(taken, numbers, out, used);
-        let day = closed.day;
+        let progress = closed.progress;
         return Step {
-            day,
+            progress,
             at: next,
             used: closed.used,
         };
     }
     Step {
-        day: taken,
+        progress: taken,
         at: end,
         used,
     }
@@ -235,30 +241,36 @@ fn take_piece(
 
 // Takes the chunk from at on, and puts the answer of each piece that ends in it at the buffer's front, one behind the other,
 // until the chunk is taken or another line might not fit.
-pub fn take(day: Day, chunk: &[u8], at: usize, numbers: &mut [u16], out: &mut [u8]) -> Step
-    requires { ⌜ SanePiece (day .piece) (now numbers) × (at < length (now chunk)) × (17600 ≤ length (now out)) ⌝ }
-    ensures { λ r. ⌜ Went (pointOf day (now (numbers .entry))) (now (chunk .entry)) at (r .at) 0 (r .used) (r .day) (now (numbers .exit)) (now (out .entry)) (now (out .exit)) × (at < r .at) ⌝ }
+pub fn take(
+    progress: Progress,
+    chunk: &[u8],
+    at: usize,
+    numbers: &mut [u16],
+    out: &mut [u8],
+) -> Step
+    requires { ⌜ SanePiece (progress .piece) (now numbers) × (at < length (now chunk)) × (17600 ≤ length (now out)) ⌝ }
+    ensures { λ r. ⌜ Went (pointOf progress (now (numbers .entry))) (now (chunk .entry)) at (r .at) 0 (r .used) (r .progress) (now (numbers .exit)) (now (out .entry)) (now (out .exit)) × (at < r .at) ⌝ }
 {
-    let last = out.len() - 17600;
-    let mut step = take_piece(day, chunk, at, numbers, out, 0);
+    let last = out.len() - wish::LINE;
+    let mut step = take_piece(progress, chunk, at, numbers, out, 0);
     while step.at < chunk.len() {
         if step.used > last {
             return step;
         }
-        step = take_piece(step.day, chunk, step.at, numbers, out, step.used);
+        step = take_piece(step.progress, chunk, step.at, numbers, out, step.used);
     }
     step
 }
 
 // The end of the input: a last piece that is not empty is answered too, at the buffer's front.
-pub fn finish(day: Day, numbers: &mut [u16], out: &mut [u8]) -> Closed
-    requires { ⌜ SanePiece (day .piece) (now numbers) × (17600 ≤ length (now out)) ⌝ }
-    ensures { λ r. ⌜ Stands (ended (pointOf day (now (numbers .entry)))) (r .day) (now (numbers .exit)) × Put 0 (lastSaid (pointOf day (now (numbers .entry)))) (now (out .entry)) (now (out .exit)) (r .used) ⌝ }
+pub fn finish(progress: Progress, numbers: &mut [u16], out: &mut [u8]) -> Closed
+    requires { ⌜ SanePiece (progress .piece) (now numbers) × (17600 ≤ length (now out)) ⌝ }
+    ensures { λ r. ⌜ Stands (ended (pointOf progress (now (numbers .entry)))) (r .progress) (now (numbers .exit)) × Put 0 (lastSaid (pointOf progress (now (numbers .entry)))) (now (out .entry)) (now (out .exit)) (r .used) ⌝ }
 {
-    if day.begun {
-        return close_piece(day, numbers, out, 0);
+    if progress.begun {
+        return close_piece(progress, numbers, out, 0);
     }
-    Closed { day, used: 0 }
+    Closed { progress, used: 0 }
 }
 
 // The line that ends a good run, at the buffer's front.
@@ -277,7 +289,7 @@ pub fn closing(c: Counts, out: &mut [u8]) -> usize
 }
 
 fn ends_line(b: u8) -> usize
-    ensures { λ r. ⌜ r ≡ asBit (eqb b 10) ⌝ }
+    ensures { λ r. ⌜ (r ≡ asBit (eqb b 10)) × (r ≤ 1) ⌝ }
 {
     if b == 10 { 1 } else { 0 }
 }

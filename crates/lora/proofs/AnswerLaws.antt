@@ -1,59 +1,66 @@
 -- What an answer of read tells of its call.
 -- Assumes nothing.
-use mathlib.Core.Path.{_≡_, refl, _∙_}
+use mathlib.Core.Path.{_≡_, refl, sym}
 use mathlib.Core.Bool.{Bool, true, false}
 use mathlib.Core.List.{List}
-use Prim.Native.Nat.{ℕ, _-_, _≤_, _<_}
+use Prim.Native.Nat.{ℕ, _<_, _≤_}
 use native.Mathlib.Omega.{arith}
 use lib.Dec.{leb}
 use lib.ListN.{length}
-use borrow.Author.Tests.{leb-true, le-leb, lt-leb}
-use Rattle.bits.specs.Pick.{check}
-use Rattle.layout.specs.Layout.{validSf}
-use Rattle.lora.specs.Count.{nibblesOf}
-use Rattle.lora.specs.Head.{firstOver, headOf}
-use Rattle.lora.specs.Read.{totalOf, badInData, sumHolds, refusalAt, repairsOf, bodyOf, dataOf, onward, readOf}
+use borrow.Author.Tests.{leb-true, lt-leb, le-leb}
+use Rattle.bits.specs.Check.{check}
+use Rattle.layout.specs.Layout.{validSf, nibblesOf, symbolsOf}
+use Rattle.layout.specs.declared.Frame.{Frame}
+use Rattle.lora.specs.Head.{headOf}
+use Rattle.lora.specs.Read.{overInRest, unreadableInData, refusalAt, sumHolds, acceptedOf, bodyOf, frameSaid, onward, readOf, bytesAfter}
+use Rattle.lora.specs.Stages.{bytesRead}
+use Rattle.lora.specs.declared.Accepted.{Accepted}
 use Rattle.lora.specs.declared.Heading.{Heading}
 use Rattle.lora.specs.declared.Heading.the-variants.{Says, Refused as HeadRefused}
+use Rattle.lora.specs.declared.Received.{Received}
 use Rattle.lora.specs.declared.Received.the-variants.{Payload, Refused}
 
 -- where read accepts, head says the same, and the payload has room
-pub record Accepted (sf : ℕ) (symbols : List ℕ) (room len cr : ℕ) (flag : Bool) : Type 0 where
-  pub head : headOf sf symbols ≡ Says len cr flag
-  pub fits : len ≤ room
+pub record Accepts (sf : ℕ) (symbols : List ℕ) (room : ℕ) (a : Accepted) : Type 0 where
+  pub head : headOf sf symbols ≡ Says (record { length = a .length; cr = a .cr; checked = a .checked })
+  pub fits : a .length ≤ room
 
-body-accepts : (sf : ℕ) (low : Bool) (symbols : List ℕ) (room a b : ℕ) (c : Bool) (len cr : ℕ) (flag : Bool) (total repairs : ℕ)
-    → bodyOf sf low symbols room a b c ≡ Payload len cr flag total repairs → (_≡_ {A = Heading} (Says a b c) (Says len cr flag)) × (len ≤ room)
-unfolding bodyOf dataOf
-body-accepts sf low symbols room a b c len cr flag total repairs e =
-    let whole : ℕ = totalOf sf low b a c in
-    let over : ℕ = firstOver sf symbols (whole - 8) 8 in
-    let bad : ℕ = badInData sf low b symbols a c in
-    keeps (leb a room) (leb whole (length symbols)) (leb whole over) (leb (nibblesOf a c) bad) (sumHolds sf low b symbols a c)
-    whole over whole (refusalAt sf low b bad) bad (repairsOf sf low b symbols a c) refl e
+body-accepts : (F : Frame) (symbols : List ℕ) (room len : ℕ) (a : Accepted) → bodyOf F symbols room len ≡ Payload a
+    → (acceptedOf F symbols len ≡ a) × (len ≤ room)
+unfolding bodyOf
+body-accepts F symbols room len a e =
+    keeps (leb len room) (leb (symbolsOf F len) (length symbols)) (leb (symbolsOf F len) (overInRest F symbols len))
+    (leb (nibblesOf F len) (unreadableInData F symbols len)) (sumHolds F symbols len) (acceptedOf F symbols len) refl e
   where
-    keeps : (t u v w x : Bool) (p q r n m k : ℕ) → leb a room ≡ t
-        → check t (Refused 4 a) (check u (Refused 5 p) (check v (Refused 6 q) (check w (Refused n m) (check x (Refused 12 0) (Payload a b c r k))))) ≡ Payload len cr flag total repairs
-        → (_≡_ {A = Heading} (Says a b c) (Says len cr flag)) × (len ≤ room)
-    keeps true true true true true p q r n m k f g =
-        let same : a ≡ len = cc in
-        (cc, rw same at (leb-true a room f))
-    keeps true true true true false p q r n m k f g = absurd (let z : _≡_ {A = ℕ} 0 1 = cc in omega arith)
-    keeps true true true false x p q r n m k f g = absurd (let z : _≡_ {A = ℕ} 0 1 = cc in omega arith)
-    keeps true true false w x p q r n m k f g = absurd (let z : _≡_ {A = ℕ} 0 1 = cc in omega arith)
-    keeps true false v w x p q r n m k f g = absurd (let z : _≡_ {A = ℕ} 0 1 = cc in omega arith)
-    keeps false u v w x p q r n m k f g = absurd (let z : _≡_ {A = ℕ} 0 1 = cc in omega arith)
+    keeps : (t u v w x : Bool) (b : Accepted) → leb len room ≡ t
+        → check t (Refused 4 len) (check u (Refused 5 (symbolsOf F len)) (check v (Refused 6 (overInRest F symbols len))
+        (check w (Refused (refusalAt F (unreadableInData F symbols len)) (unreadableInData F symbols len)) (check x (Refused 12 0) (Payload b))))) ≡ Payload a
+        → (b ≡ a) × (len ≤ room)
+    keeps true true true true true b f g = (cc, leb-true len room f)
+    keeps true true true true false b f g = absurd (let z : _≡_ {A = ℕ} 0 1 = cc in omega arith)
+    keeps true true true false x b f g = absurd (let z : _≡_ {A = ℕ} 0 1 = cc in omega arith)
+    keeps true true false w x b f g = absurd (let z : _≡_ {A = ℕ} 0 1 = cc in omega arith)
+    keeps true false v w x b f g = absurd (let z : _≡_ {A = ℕ} 0 1 = cc in omega arith)
+    keeps false u v w x b f g = absurd (let z : _≡_ {A = ℕ} 0 1 = cc in omega arith)
 
-pub accepted : (sf : ℕ) (low : Bool) (symbols : List ℕ) (room len cr : ℕ) (flag : Bool) (total repairs : ℕ)
-    → readOf sf low symbols room ≡ Payload len cr flag total repairs → Accepted sf symbols room len cr flag
-unfolding readOf
-accepted sf low symbols room len cr flag total repairs e = one (headOf sf symbols) refl e
+pub accepts : (sf : ℕ) (low : Bool) (symbols : List ℕ) (room : ℕ) (a : Accepted) → readOf sf low symbols room ≡ Payload a → Accepts sf symbols room a
+unfolding readOf acceptedOf
+accepts sf low symbols room a e = one (headOf sf symbols) refl e
   where
-    one : (h : Heading) → headOf sf symbols ≡ h → onward h sf low symbols room ≡ Payload len cr flag total repairs → Accepted sf symbols room len cr flag
-    one (HeadRefused a b) f g = absurd (let z : _≡_ {A = ℕ} 0 1 = cc in omega arith)
-    one (Says a b c) f g =
-        let (same, fits) = body-accepts sf low symbols room a b c len cr flag total repairs g in
-        record { head = f ∙ same; fits = fits }
+    one : (h : Heading) → headOf sf symbols ≡ h → onward h sf low symbols room ≡ Payload a → Accepts sf symbols room a
+    one (HeadRefused n p) f g = absurd (let z : _≡_ {A = ℕ} 0 1 = cc in omega arith)
+    one (Says h) f g =
+        let (same, fits) = body-accepts (frameSaid sf low (h .cr) (h .checked)) symbols room (h .length) a g in
+        rw (← same) (record { head = f; fits = fits })
+
+-- the payload's bytes, by the rate and the flag that are answered
+pub bytes-said : (sf : ℕ) (low : Bool) (cr : ℕ) (flag : Bool) (symbols : List ℕ) (room len : ℕ) (old : List ℕ) (r : Received)
+    → r ≡ bodyOf (frameSaid sf low cr flag) symbols room len → bytesRead r (frameSaid sf low cr flag) symbols old ≡ bytesAfter r sf low symbols old
+unfolding acceptedOf
+bytes-said sf low cr flag symbols room len old (Refused number place) e = refl
+bytes-said sf low cr flag symbols room len old (Payload a) e =
+    let (same, fits) = body-accepts (frameSaid sf low cr flag) symbols room len a (sym e) in
+    rw (← same)
 
 -- a spreading factor above 12 is refused with 1
 pub sf-refused : (sf : ℕ) (low : Bool) (symbols : List ℕ) (room : ℕ) → 12 < sf → readOf sf low symbols room ≡ Refused 1 0

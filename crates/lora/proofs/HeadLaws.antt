@@ -3,124 +3,127 @@
 use mathlib.Core.Path.{_≡_, refl, sym, ap, _∙_}
 use mathlib.Core.Bool.{Bool, true, false}
 use mathlib.Core.List.{List, [], _∷_}
-use Prim.Native.Nat.{ℕ, _≤_, _<_}
+use Prim.Native.Nat.{ℕ, _+_, _-_, _<_, _≤_}
 use native.Mathlib.Omega.{arith}
-use lib.Dec.{leb, ltb}
-use lib.ListN.{length, getD, List·getD-eq-default}
-use borrow.Author.Tests.{leb-true, le-leb, lt-leb, ltb-true, ltb-false}
-use Rattle.bits.specs.Pick.{check}
-use Rattle.bits.specs.Search.{first}
+use lib.Dec.{leb}
+use lib.ListN.{length, getD}
+use borrow.Author.Tests.{lt-leb, le-leb}
+use Rattle.bits.specs.Check.{check}
+use Rattle.bits.specs.Search.{howMany}
 use Rattle.bits.specs.Tab.{tab}
-use Rattle.bits.proofs.Searches.{first-before, first-cong}
-use Rattle.bits.proofs.Tabs.{length-tab, getD-tab}
-use Rattle.codeword.specs.Codeword.{nibbleOf, isUnreadable}
+use Rattle.bits.proofs.Searches.{first-range, first-cong, howMany-cong}
+use Rattle.bits.proofs.Tabs.{tab-cong}
+use Rattle.codeword.specs.Codeword.{nibbleOf, isRepaired, isUnreadable}
+use Rattle.codeword.specs.declared.Found.{Found}
 use Rattle.codeword.proofs.CodeLaws.{nibble-lt}
 use Rattle.header.specs.Header.{verdictOf}
+use Rattle.header.specs.declared.Header.{Header}
 use Rattle.header.specs.declared.Verdict.{Verdict}
 use Rattle.header.specs.declared.Verdict.the-variants.{Says as HeaderSays, Refused as HeaderRefused}
 use Rattle.header.proofs.HeaderLaws.{says-range}
-use Rattle.layout.specs.Layout.{validSf, symbolCount}
-use Rattle.layout.proofs.LayoutLaws.{no-later}
-use Rattle.reading.specs.Heard.{heardInBlock, heardAt, badAt, nibbleAt, Walk}
-use Rattle.reading.proofs.ReadingLaws.{heard-in-first, walk-nibbles}
+use Rattle.layout.specs.Layout.{validSf, firstBlock}
+use Rattle.layout.specs.Ranges.{Valid}
+use Rattle.layout.specs.declared.Frame.{Frame}
+use Rattle.reading.specs.Found.{foundAt, unreadableAt, repairedAt, nibbleAt, foundInBlock}
+use Rattle.reading.specs.Stages.{gridOfSymbols, rowsFrom, Walk}
+use Rattle.reading.proofs.ReadingLaws.{found-in-first, walk-nibbles}
+use Rattle.reading.proofs.RowLaws.{row-in-first}
+use Rattle.lora.specs.Head.{firstOver, headerFound, unreadableInHeader, said, headerOf, headOf}
 use Rattle.lora.specs.declared.Heading.the-variants.{Says, Refused}
-use Rattle.lora.specs.Head.{firstOver, headerHeard, badInHeader, said, headerOf, headOf}
 use Rattle.lora.proofs.CountLaws.{sf-valid}
 
--- what the header's codewords are read as are nibbles
-header-small : (sf : ℕ) (symbols : List ℕ) (i : ℕ) → getD (tab 5 (nibbleAt (headerHeard sf symbols))) i 0 < 16
-unfolding headerHeard heardInBlock
-header-small sf symbols i = at (ltb i 5) refl
-  where
-    at : (b : Bool) → ltb i 5 ≡ b → getD (tab 5 (nibbleAt (headerHeard sf symbols))) i 0 < 16
-    at true e = rw (getD-tab {A = ℕ} 5 (nibbleAt (headerHeard sf symbols)) i 0 (ltb-true i 5 e)) (nibble-lt _ _)
-    at false e = rw (List·getD-eq-default {A = ℕ} (tab 5 (nibbleAt (headerHeard sf symbols))) 0 {n = i} (rw length-tab (ltb-false i 5 e))) (omega arith)
-
--- where head says a length and a rate: the symbols are enough, what it says is in range, and codewords 0 to 4 can be read
-pub record Heads (sf : ℕ) (symbols : List ℕ) (len cr : ℕ) : Type 0 where
+-- where head says a header: the spreading factor, the length and the rate are in range
+pub record Heads (sf : ℕ) (h : Header) : Type 0 where
   pub sf-low : 7 ≤ sf
   pub sf-high : sf ≤ 12
-  pub eight : 8 ≤ length symbols
-  pub short : len ≤ 255
-  pub cr-low : 1 ≤ cr
-  pub cr-high : cr ≤ 4
-  pub read : (i : ℕ) → i < 5 → badAt (headerHeard sf symbols) i ≡ false
+  pub short : h .length ≤ 255
+  pub cr-low : 1 ≤ h .cr
+  pub cr-high : h .cr ≤ 4
 
 module _ (sf : ℕ) (symbols : List ℕ) where
+  -- what the header's codewords are read as are nibbles
+  header-small : (i : ℕ) → nibbleAt (headerFound sf symbols) i < 16
+  unfolding headerFound foundInBlock
+  header-small i = nibble-lt _ _
+
   -- what the header says is in range
-  said-range : (len cr : ℕ) (flag : Bool) → said (verdictOf (tab 5 (nibbleAt (headerHeard sf symbols)))) ≡ Says len cr flag → (len ≤ 255) × (1 ≤ cr) × (cr ≤ 4)
-  said-range len cr flag e = at (verdictOf (tab 5 (nibbleAt (headerHeard sf symbols)))) refl e
+  said-range : (h : Header) → said (verdictOf (tab 5 (nibbleAt (headerFound sf symbols)))) ≡ Says h → (h .length < 256) × (1 ≤ h .cr) × (h .cr ≤ 4)
+  said-range h e = at (verdictOf (tab 5 (nibbleAt (headerFound sf symbols)))) refl e
     where
-      at : (v : Verdict) → verdictOf (tab 5 (nibbleAt (headerHeard sf symbols))) ≡ v → said v ≡ Says len cr flag → (len ≤ 255) × (1 ≤ cr) × (cr ≤ 4)
+      at : (v : Verdict) → verdictOf (tab 5 (nibbleAt (headerFound sf symbols))) ≡ v → said v ≡ Says h → (h .length < 256) × (1 ≤ h .cr) × (h .cr ≤ 4)
       at (HeaderRefused n) p q = absurd (let z : _≡_ {A = ℕ} 0 1 = cc in omega arith)
-      at (HeaderSays n k f) p q =
-          let a : n ≡ len = cc in
-          let b : k ≡ cr = cc in
-          let (x, y, z) = says-range (tab 5 (nibbleAt (headerHeard sf symbols))) n k f (header-small sf symbols) p in
-          (omega arith, omega arith, omega arith)
+      at (HeaderSays k) p q =
+          let same : k ≡ h = cc in
+          says-range (nibbleAt (headerFound sf symbols)) h header-small (p ∙ ap HeaderSays same)
 
-  pub head-sound : (len cr : ℕ) (flag : Bool) → headOf sf symbols ≡ Says len cr flag → Heads sf symbols len cr
-  unfolding headOf headerOf badInHeader
-  head-sound len cr flag e = one (validSf sf) (leb 8 (length symbols)) (leb 8 (firstOver sf symbols 8 0)) (leb 5 (badInHeader sf symbols)) refl refl refl e
+  pub head-sound : (h : Header) → headOf sf symbols ≡ Says h → Heads sf h
+  unfolding headOf headerOf
+  head-sound h e = one (validSf sf) (leb 8 (length symbols)) (leb 8 (firstOver sf symbols 8 0)) (leb 5 (unreadableInHeader (headerFound sf symbols))) refl e
     where
-      one : (a b c d : Bool) → validSf sf ≡ a → leb 8 (length symbols) ≡ b → leb 5 (badInHeader sf symbols) ≡ d
+      one : (a b c d : Bool) → validSf sf ≡ a
           → check a (Refused 1 0) (check b (Refused 5 8) (check c (Refused 6 (firstOver sf symbols 8 0))
-          (check d (Refused 7 (badInHeader sf symbols)) (said (verdictOf (tab 5 (nibbleAt (headerHeard sf symbols)))))))) ≡ Says len cr flag
-          → Heads sf symbols len cr
-      one true true true true p q r f =
+          (check d (Refused 7 (unreadableInHeader (headerFound sf symbols))) (said (verdictOf (tab 5 (nibbleAt (headerFound sf symbols)))))))) ≡ Says h
+          → Heads sf h
+      one true true true true p f =
           let (low, high) = sf-valid sf p in
-          let (x, y, z) = said-range len cr flag f in
-          record {
-            sf-low = low;
-            sf-high = high;
-            eight = leb-true 8 (length symbols) q;
-            short = x;
-            cr-low = y;
-            cr-high = z;
-            read = λ i h. first-before (badAt (headerHeard sf symbols)) 5 0 i (omega arith) (omega (arith, leb-true 5 (badInHeader sf symbols) r));
-          }
-      one true true true false p q r f = absurd (let z : _≡_ {A = ℕ} 0 1 = cc in omega arith)
-      one true true false d p q r f = absurd (let z : _≡_ {A = ℕ} 0 1 = cc in omega arith)
-      one true false c d p q r f = absurd (let z : _≡_ {A = ℕ} 0 1 = cc in omega arith)
-      one false b c d p q r f = absurd (let z : _≡_ {A = ℕ} 0 1 = cc in omega arith)
+          let (x, y, z) = said-range h f in
+          record { sf-low = low; sf-high = high; short = omega arith; cr-low = y; cr-high = z }
+      one true true true false p f = absurd (let z : _≡_ {A = ℕ} 0 1 = cc in omega arith)
+      one true true false d p f = absurd (let z : _≡_ {A = ℕ} 0 1 = cc in omega arith)
+      one true false c d p f = absurd (let z : _≡_ {A = ℕ} 0 1 = cc in omega arith)
+      one false b c d p f = absurd (let z : _≡_ {A = ℕ} 0 1 = cc in omega arith)
 
--- the header's codewords stand in the first eight symbols
-pub header-symbols : (sf : ℕ) (low : Bool) (cr : ℕ) → 7 ≤ sf → sf ≤ 12 → symbolCount sf low cr 5 ≡ 8
-unfolding symbolCount
-header-symbols sf low cr h k = rw (no-later sf low 5 h k (omega arith)) (omega arith)
+-- the header's codewords are the frame's first five, whatever the rest of the frame is like
+pub header-found : (F : Frame) (symbols : List ℕ) → Valid F → (i : ℕ) → i < 5 → foundAt F symbols i ≡ headerFound (F .sf) symbols i
+unfolding headerFound
+header-found F symbols v i l = found-in-first F symbols i (omega (arith, v .sf-low))
 
-module _ (sf : ℕ) (low : Bool) (cr : ℕ) (symbols : List ℕ) (h : 7 ≤ sf) (k : sf ≤ 12) where
-  -- the header's codewords are the frame's first five, whatever the rest of the frame is like
-  pub header-heard : (i : ℕ) → i < 5 → heardAt sf low cr symbols i ≡ headerHeard sf symbols i
-  unfolding headerHeard
-  header-heard i l = heard-in-first sf low cr symbols i h k (omega arith)
+-- a header is what its five codewords are found to be
+pub header-same : (f g : ℕ → Found) → ((i : ℕ) → i < 5 → f i ≡ g i) → headerOf f ≡ headerOf g
+unfolding headerOf unreadableInHeader
+header-same f g e =
+    rw (first-cong (unreadableAt f) (unreadableAt g) 5 0 (λ i a b. ap isUnreadable (e i b)), tab-cong 5 (nibbleAt f) (nibbleAt g) (λ i l. ap nibbleOf (e i l)))
 
-  -- the first of them that can't be read
-  pub header-bad : first (badAt (heardAt sf low cr symbols)) 5 0 ≡ badInHeader sf symbols
-  unfolding badInHeader
-  header-bad = first-cong _ _ 5 0 (λ i a b. ap isUnreadable (header-heard i (omega arith)))
+-- a run over five codewords
+module _ (found : ℕ → Found) {old new : List ℕ} {end repairs : ℕ} (w : Walk found 5 0 old new end repairs) where
+  unreadable-is : unreadableInHeader found ≡ end
+  unfolding unreadableInHeader
+  unreadable-is = sym (w .ends)
 
-  module _ {old new : List ℕ} {end repairs : ℕ} (w : Walk (heardAt sf low cr symbols) 5 0 old new end repairs) where
-    -- five codewords that were read up to one that can't be
-    pub header-refused : end < 5 → headerOf sf symbols ≡ Refused 7 end
-    unfolding headerOf
-    header-refused l =
-        let e : badInHeader sf symbols ≡ end = sym (w .ends ∙ header-bad) in
-        rw (e, lt-leb 5 end l)
+  -- up to one that can't be read
+  pub header-refused : end < 5 → headerOf found ≡ Refused 7 end
+  unfolding headerOf
+  header-refused l = rw (unreadable-is, lt-leb 5 end l)
 
-    -- the five nibbles read
-    header-nibble : 5 ≤ end → (i : ℕ) → i < 5 → getD new i 0 ≡ nibbleAt (headerHeard sf symbols) i
-    header-nibble l i m = walk-nibbles w i (omega arith) ∙ ap nibbleOf (header-heard i m)
+  module _ (all : 5 ≤ end) where
+    header-nibble : (i : ℕ) → i < 5 → getD new i 0 ≡ nibbleAt found i
+    header-nibble i l =
+        let z : 0 + i ≡ i = omega arith in
+        rw z at (walk-nibbles w (omega arith) i (omega arith))
 
-    -- as a list
-    header-nibbles-read : 5 ≤ end → getD new 0 0 ∷ getD new 1 0 ∷ getD new 2 0 ∷ getD new 3 0 ∷ getD new 4 0 ∷ [] ≡ tab 5 (nibbleAt (headerHeard sf symbols))
+    header-nibbles : getD new 0 0 ∷ getD new 1 0 ∷ getD new 2 0 ∷ getD new 3 0 ∷ getD new 4 0 ∷ [] ≡ tab 5 (nibbleAt found)
     unfolding tab
-    header-nibbles-read l =
-        rw (header-nibble l 0 (omega arith), header-nibble l 1 (omega arith), header-nibble l 2 (omega arith), header-nibble l 3 (omega arith), header-nibble l 4 (omega arith))
+    header-nibbles =
+        rw (header-nibble 0 (omega arith), header-nibble 1 (omega arith), header-nibble 2 (omega arith), header-nibble 3 (omega arith), header-nibble 4 (omega arith))
 
-    -- and five that were all read: what their nibbles say
-    pub header-said : 5 ≤ end → headerOf sf symbols ≡ said (verdictOf (getD new 0 0 ∷ getD new 1 0 ∷ getD new 2 0 ∷ getD new 3 0 ∷ getD new 4 0 ∷ []))
+    -- all of them: what their nibbles say
+    pub header-said : headerOf found ≡ said (verdictOf (getD new 0 0 ∷ getD new 1 0 ∷ getD new 2 0 ∷ getD new 3 0 ∷ getD new 4 0 ∷ []))
     unfolding headerOf
-    header-said l =
-        let e : badInHeader sf symbols ≡ end = sym (w .ends ∙ header-bad) in
-        rw (e, le-leb 5 end l, header-nibbles-read l)
+    header-said = rw (unreadable-is, le-leb 5 end all, header-nibbles)
+
+    -- and their repairs
+    pub header-repairs : repairs ≡ howMany (repairedAt found) 5
+    header-repairs =
+        let e : end ≡ 5 = omega (arith, w .ends, first-range (unreadableAt found) 5 0) in
+        w .counts ∙ ap (howMany (repairedAt found)) e
+
+-- the rows of block 0's grid are its codewords
+pub grid-found : (sf : ℕ) (symbols : List ℕ) {grid : List (List Bool)} → 7 ≤ sf → grid ≡ gridOfSymbols (firstBlock sf) symbols
+    → (i : ℕ) → i < 5 → rowsFrom 4 grid 0 i ≡ headerFound sf symbols i
+unfolding rowsFrom headerFound
+grid-found sf symbols h e i l = let z : 0 + i ≡ i = omega arith in rw (e, z) (row-in-first sf symbols i (omega arith))
+
+-- and so are their repairs
+pub grid-repairs : (sf : ℕ) (symbols : List ℕ) {grid : List (List Bool)} → 7 ≤ sf → grid ≡ gridOfSymbols (firstBlock sf) symbols
+    → howMany (repairedAt (rowsFrom 4 grid 0)) 5 ≡ howMany (repairedAt (headerFound sf symbols)) 5
+grid-repairs sf symbols h e = howMany-cong _ _ 5 (λ i l. ap isRepaired (grid-found sf symbols h e i l))

@@ -1,150 +1,174 @@
--- What a run over a frame's codewords says of the frame, and what the checks of read leave.
+-- What a run over a frame's data codewords says of the frame, and what the checks of read leave.
 -- Assumes nothing.
-use mathlib.Core.Path.{_≡_, refl, ap, ap₂, _∙_}
-use mathlib.Core.Bool.{Bool, true, false}
+use mathlib.Core.Path.{_≡_, refl, sym, ap, ap₂, _∙_}
+use mathlib.Core.Bool.{Bool, true, false, cond}
 use mathlib.Core.List.{List}
-use Prim.Native.Nat.{ℕ, _+_, _-_, _*_, _≤_, _<_}
+use Prim.Native.Nat.{ℕ, _+_, _-_, _<_, _≤_}
+use native.Mathlib.Nat.{add-zero}
 use native.Mathlib.Omega.{arith}
 use lib.Dec.{leb, eqb}
 use lib.ListN.{length, getD, take, drop}
 use lib.Seq.{take-at}
-use borrow.Author.Tests.{le-leb, lt-leb}
-use Rattle.bits.specs.Pick.{pick, check}
-use Rattle.bits.specs.Search.{howMany}
+use borrow.Author.Tests.{lt-leb, le-leb}
+use Rattle.bits.specs.Check.{check}
+use Rattle.bits.specs.Search.{first, howMany}
 use Rattle.bits.specs.Tab.{tab, over, blank}
-use Rattle.bits.proofs.Searches.{first-skip, first-range}
-use Rattle.bits.proofs.Tabs.{length-tab, getD-over, over-cong}
+use Rattle.bits.proofs.Searches.{first-range, first-shift, howMany-add, howMany-cong, howMany-le}
+use Rattle.bits.proofs.Tabs.{length-blank, length-tab, getD-over, over-cong}
 use Rattle.checksum.specs.Checksum.{checksum}
-use Rattle.layout.specs.Layout.{dataNibbles, symbolCount}
-use Rattle.codeword.specs.Codeword.{isUnreadable}
-use Rattle.reading.specs.Heard.{heardAt, badAt, mendedAt, Walk}
-use Rattle.reading.specs.Payload.{listed, payloadByte, sentChecksum}
-use Rattle.reading.proofs.ReadingLaws.{walk-nibbles, walk-small, blank-small, nibble-heard-lt, payload-cong, checksum-cong}
-use Rattle.lora.specs.declared.Settings.{Settings}
+use Rattle.codeword.specs.Codeword.{isRepaired}
+use Rattle.header.specs.declared.Header.{Header}
+use Rattle.layout.specs.Layout.{firstBlock, dataNibbles, nibblesOf, symbolsOf}
+use Rattle.layout.specs.Ranges.{Valid}
+use Rattle.layout.specs.declared.Frame.{Frame}
+use Rattle.reading.specs.Found.{foundAt, dataFound, unreadableAt, repairedAt}
+use Rattle.reading.specs.Payload.{payloadByte, sentChecksum}
+use Rattle.reading.specs.Stages.{gridOfSymbols, listed, Walk}
+use Rattle.reading.proofs.ReadingLaws.{blank-small, nibble-data-lt, walk-nibbles, walk-small, payload-cong, checksum-cong}
+use Rattle.lora.specs.Head.{headerFound}
+use Rattle.lora.specs.Read.{overInRest, unreadableInData, refusalAt, nibbleFound, byteFound, sumHolds, repairsOf, acceptedOf, bodyOf, frameSaid}
+use Rattle.lora.specs.Stages.{sumAgrees, Headed, dataOf}
+use Rattle.lora.specs.declared.Accepted.{Accepted}
 use Rattle.lora.specs.declared.Received.the-variants.{Payload, Refused}
-use Rattle.lora.specs.Count.{nibblesOf, symbolsOf}
-use Rattle.lora.specs.Head.{firstOver}
-use Rattle.lora.specs.Read.{nibbleHeard, byteHeard, sumHolds, badInData, refusalAt, repairsOf, totalOf, dataOf, bodyOf}
-use Rattle.lora.specs.Stages.{sumAgrees, Headed}
-use Rattle.lora.proofs.HeadLaws.{Heads, header-heard}
+use Rattle.lora.proofs.HeadLaws.{Heads, header-found}
 
--- a run over all codewords of a frame with these settings, whose header was read
-pub record Run (s : Settings) (symbols : List ℕ) (len : ℕ) (nibbles : List ℕ) (end repairs : ℕ) : Type 0 where
-  pub headed : Headed s symbols len
-  pub walk : Walk (heardAt (s .sf) (s .low) (s .cr) symbols) (nibblesOf len (s .checksum)) 0 (blank 519 0) nibbles end repairs
+-- the nibbles of a frame without its header's are its data
+module _ (F : Frame) (len : ℕ) {n : ℕ} (is : n ≡ nibblesOf F len) where
+  pub data-is : n - F .header ≡ dataNibbles len (F .checked)
+  unfolding nibblesOf
+  data-is = omega (arith, is)
 
-module _ {s : Settings} {symbols : List ℕ} {len : ℕ} {nibbles : List ℕ} {end repairs : ℕ} (w : Run s symbols len nibbles end repairs) where
+  pub whole-is : F .header + (n - F .header) ≡ nibblesOf F len
+  unfolding nibblesOf
+  whole-is = omega (arith, is)
+
+-- a run over the data codewords of a frame whose header was read with so many repairs
+pub record Run (F : Frame) (symbols : List ℕ) (len before : ℕ) (nibbles : List ℕ) (end repairs : ℕ) : Type 0 where
+  pub valid : Valid F
+  pub header : before ≡ howMany (repairedAt (foundAt F symbols)) (F .header)
+  pub walk : Walk (dataFound F symbols) (dataNibbles len (F .checked)) (F .header) (blank 519 0) nibbles end repairs
+
+module _ {F : Frame} {symbols : List ℕ} {len before : ℕ} {nibbles : List ℕ} {end repairs : ℕ} (w : Run F symbols len before nibbles end repairs) where
+  room : F .header ≤ length (blank {A = ℕ} 519 0)
+  room = omega (arith, length-blank {A = ℕ} 519 0, w .valid .header-high)
+
   -- it leaves nibbles
   pub run-small : (i : ℕ) → getD nibbles i 0 < 16
-  run-small = walk-small (w .walk) (nibble-heard-lt (s .sf) (s .low) (s .cr) symbols) (blank-small 519)
+  run-small = walk-small (w .walk) room (nibble-data-lt F symbols) (blank-small 519)
 
   -- it ends at the first data codeword that can't be read
-  pub run-bad : end ≡ badInData (s .sf) (s .low) (s .cr) symbols len (s .checksum)
-  unfolding badInData nibblesOf
-  run-bad =
-      w .walk .ends ∙ first-skip (badAt (heardAt (s .sf) (s .low) (s .cr) symbols)) 5 (dataNibbles len (s .checksum)) 0 (λ k a b. w .headed .read k (omega arith))
+  pub run-ends : F .header + end ≡ unreadableInData F symbols len
+  unfolding unreadableInData dataFound
+  run-ends =
+      ap (λ (k : ℕ). F .header + k) (w .walk .ends)
+      ∙ sym (first-shift (unreadableAt (foundAt F symbols)) (F .header) (dataNibbles len (F .checked)) 0)
+      ∙ ap (first (unreadableAt (foundAt F symbols)) (dataNibbles len (F .checked))) (add-zero (F .header))
+
+  -- at most behind the last
+  pub run-le : end ≤ dataNibbles len (F .checked)
+  run-le = omega (arith, w .walk .ends, first-range (unreadableAt (dataFound F symbols)) (dataNibbles len (F .checked)) 0)
+
+  -- with no more repairs than codewords
+  pub run-few : before + repairs ≤ F .header + end
+  run-few =
+      omega (
+        arith,
+        w .header,
+        howMany-le (repairedAt (foundAt F symbols)) (F .header),
+        w .walk .counts,
+        howMany-le (repairedAt (dataFound F symbols)) end,
+      )
 
   -- a run that met none
-  module _ (whole : nibblesOf len (s .checksum) ≤ end) where
-    -- it ends behind the last codeword
-    run-end : end ≡ nibblesOf len (s .checksum)
-    run-end = omega (arith, w .walk .ends, first-range (badAt (heardAt (s .sf) (s .low) (s .cr) symbols)) (nibblesOf len (s .checksum)) 0)
+  module _ (whole : nibblesOf F len ≤ F .header + end) where
+    run-end : end ≡ dataNibbles len (F .checked)
+    unfolding nibblesOf
+    run-end = omega (arith, run-le)
 
-    -- it leaves each nibble that is read
-    run-nibbles : (i : ℕ) → i < nibblesOf len (s .checksum) → listed nibbles i ≡ nibbleHeard (s .sf) (s .low) (s .cr) symbols i
-    unfolding listed nibbleHeard
-    run-nibbles i l = walk-nibbles (w .walk) i (omega arith)
+    -- it leaves each data nibble
+    run-nibbles : (i : ℕ) → i < dataNibbles len (F .checked) → listed nibbles (F .header + i) ≡ nibbleFound F symbols (F .header + i)
+    unfolding listed nibbleFound dataFound
+    run-nibbles i l = walk-nibbles (w .walk) room i (omega (arith, run-end))
 
     -- and with them each byte
-    run-byte : (p : ℕ) → p < len → payloadByte 5 (listed nibbles) p ≡ byteHeard (s .sf) (s .low) (s .cr) symbols p
-    unfolding byteHeard nibblesOf dataNibbles
-    run-byte p l = payload-cong 5 (listed nibbles) _ p (run-nibbles (5 + 2 * p) (omega arith)) (run-nibbles (5 + 2 * p + 1) (omega arith))
+    run-byte : (p : ℕ) → p < len → payloadByte (F .header) (listed nibbles) p ≡ byteFound F symbols p
+    unfolding byteFound dataNibbles
+    run-byte p l = payload-cong (F .header) (dataNibbles len (F .checked)) (listed nibbles) _ run-nibbles p (omega arith)
 
     -- the payload read is the frame's
-    pub run-payload : (d : List ℕ) → over len (payloadByte 5 (listed nibbles)) d ≡ over len (byteHeard (s .sf) (s .low) (s .cr) symbols) d
+    pub run-payload : (d : List ℕ) → over len (payloadByte (F .header) (listed nibbles)) d ≡ over len (byteFound F symbols) d
     run-payload d = over-cong len _ _ d run-byte
 
     -- its checksum holds where the frame's does
-    pub run-sum : {payload : List ℕ} (d : List ℕ) → payload ≡ over len (payloadByte 5 (listed nibbles)) d
-        → sumAgrees (s .checksum) len payload nibbles ≡ sumHolds (s .sf) (s .low) (s .cr) symbols len (s .checksum)
-    unfolding sumAgrees sumHolds nibblesOf dataNibbles
-    run-sum {payload} d e = at (s .checksum) refl
+    pub run-sum : {payload : List ℕ} (d : List ℕ) → payload ≡ over len (payloadByte (F .header) (listed nibbles)) d
+        → sumAgrees F len payload nibbles ≡ sumHolds F symbols len
+    unfolding sumAgrees sumHolds dataNibbles
+    run-sum {payload} d e = at (F .checked) refl
       where
-        bytes : take len payload ≡ tab len (byteHeard (s .sf) (s .low) (s .cr) symbols)
-        bytes = rw (e ∙ run-payload d) (take-at (tab len (byteHeard (s .sf) (s .low) (s .cr) symbols)) (drop len d) len (length-tab len _))
+        bytes : take len payload ≡ tab len (byteFound F symbols)
+        bytes = rw (e ∙ run-payload d) (take-at (tab len (byteFound F symbols)) (drop len d) len (length-tab len _))
 
-        at : (b : Bool) → s .checksum ≡ b
-            → pick b (eqb (checksum (take len payload)) (sentChecksum 5 (listed nibbles) len)) true
-            ≡ pick b (eqb (checksum (tab len (byteHeard (s .sf) (s .low) (s .cr) symbols))) (sentChecksum 5 (nibbleHeard (s .sf) (s .low) (s .cr) symbols) len)) true
+        at : (b : Bool) → F .checked ≡ b
+            → cond b (eqb (checksum (take len payload)) (sentChecksum (F .header) (listed nibbles) len)) true
+            ≡ cond b (eqb (checksum (tab len (byteFound F symbols))) (sentChecksum (F .header) (nibbleFound F symbols) len)) true
         at true f =
             ap₂ (λ (x : List ℕ) (y : ℕ). eqb (checksum x) y) bytes
-            (checksum-cong 5 (listed nibbles) _ len (λ i l. run-nibbles i (rw f (omega arith))))
+            (checksum-cong (F .header) (dataNibbles len (F .checked)) (listed nibbles) _ run-nibbles len (rw f (omega arith)))
         at false f = refl
 
-    -- the repairs counted are the frame's
-    pub run-repairs : repairs ≡ repairsOf (s .sf) (s .low) (s .cr) symbols len (s .checksum)
-    unfolding repairsOf
-    run-repairs = w .walk .counts ∙ ap (howMany (mendedAt (heardAt (s .sf) (s .low) (s .cr) symbols))) run-end
+    -- its repairs and the header's are the frame's
+    pub run-repairs : before + repairs ≡ repairsOf F symbols len
+    unfolding repairsOf nibblesOf dataFound
+    run-repairs =
+        ap₂ (λ (x y : ℕ). x + y) (w .header) (w .walk .counts ∙ ap (howMany (λ i. repairedAt (foundAt F symbols) (F .header + i))) run-end)
+        ∙ sym (howMany-add (repairedAt (foundAt F symbols)) (F .header) (dataNibbles len (F .checked)))
 
   -- the three answers: a codeword that can't be read, a checksum that disagrees, and the payload
-  pub says-bad : (number : ℕ) → end < nibblesOf len (s .checksum) → number ≡ refusalAt (s .sf) (s .low) (s .cr) end
-      → Refused number end ≡ dataOf (s .sf) (s .low) symbols len (s .cr) (s .checksum)
+  pub says-unreadable : (number : ℕ) → F .header + end < nibblesOf F len → number ≡ refusalAt F (F .header + end) → Refused number (F .header + end) ≡ dataOf F symbols len
   unfolding dataOf
-  says-bad number l e = rw (← run-bad, lt-leb _ _ l, e)
+  says-unreadable number l e = rw (← run-ends, lt-leb _ _ l, e)
 
-  pub says-twelve : (payload d : List ℕ) → nibblesOf len (s .checksum) ≤ end → payload ≡ over len (payloadByte 5 (listed nibbles)) d
-      → sumAgrees (s .checksum) len payload nibbles ≡ false → Refused 12 0 ≡ dataOf (s .sf) (s .low) symbols len (s .cr) (s .checksum)
+  pub says-twelve : (payload d : List ℕ) → nibblesOf F len ≤ F .header + end → payload ≡ over len (payloadByte (F .header) (listed nibbles)) d
+      → sumAgrees F len payload nibbles ≡ false → Refused 12 0 ≡ dataOf F symbols len
   unfolding dataOf
-  says-twelve payload d l e f = rw (← run-bad, le-leb _ _ l, ← run-sum l d e, f)
+  says-twelve payload d l e f = rw (← run-ends, le-leb _ _ l, ← run-sum l d e, f)
 
-  pub says-payload : (payload d : List ℕ) → nibblesOf len (s .checksum) ≤ end → payload ≡ over len (payloadByte 5 (listed nibbles)) d
-      → sumAgrees (s .checksum) len payload nibbles ≡ true
-      → Payload len (s .cr) (s .checksum) (symbolsOf s len) repairs ≡ dataOf (s .sf) (s .low) symbols len (s .cr) (s .checksum)
-  unfolding dataOf symbolsOf totalOf
-  says-payload payload d l e f = rw (← run-bad, le-leb _ _ l, ← run-sum l d e, f, run-repairs l)
+  pub says-payload : (payload d : List ℕ) → nibblesOf F len ≤ F .header + end → payload ≡ over len (payloadByte (F .header) (listed nibbles)) d
+      → sumAgrees F len payload nibbles ≡ true
+      → Payload (record { length = len; cr = F .cr; checked = F .checked; symbols = symbolsOf F len; repairs = before + repairs }) ≡ dataOf F symbols len
+  unfolding dataOf acceptedOf
+  says-payload payload d l e f = rw (← run-ends, le-leb _ _ l, ← run-sum l d e, f, run-repairs l)
 
 -- a payload that is answered has the length that the header says
-pub data-length : (s : Settings) (symbols : List ℕ) (len n cr : ℕ) (flag : Bool) (total repairs : ℕ)
-    → dataOf (s .sf) (s .low) symbols len (s .cr) (s .checksum) ≡ Payload n cr flag total repairs → n ≡ len
-unfolding dataOf
-data-length s symbols len n cr flag total repairs e = at (leb (nibblesOf len (s .checksum)) bad) (sumHolds (s .sf) (s .low) (s .cr) symbols len (s .checksum)) e
+pub data-length : (F : Frame) (symbols : List ℕ) (len : ℕ) (a : Accepted) → dataOf F symbols len ≡ Payload a → a .length ≡ len
+unfolding dataOf acceptedOf
+data-length F symbols len a e = at (leb (nibblesOf F len) (unreadableInData F symbols len)) (sumHolds F symbols len) (acceptedOf F symbols len) refl e
   where
-    bad : ℕ
-    bad = badInData (s .sf) (s .low) (s .cr) symbols len (s .checksum)
-
-    at : (a b : Bool)
-        → check a (Refused (refusalAt (s .sf) (s .low) (s .cr) bad) bad)
-        (check b (Refused 12 0)
-        (Payload len (s .cr) (s .checksum) (totalOf (s .sf) (s .low) (s .cr) len (s .checksum)) (repairsOf (s .sf) (s .low) (s .cr) symbols len (s .checksum))))
-        ≡ Payload n cr flag total repairs
-        → n ≡ len
-    at true true f = cc
-    at true false f = absurd (let z : _≡_ {A = ℕ} 0 1 = cc in omega arith)
-    at false b f = absurd (let z : _≡_ {A = ℕ} 0 1 = cc in omega arith)
-
--- a frame has its first eight symbols at least
-pub symbols-ge : (s : Settings) (len : ℕ) → 8 ≤ symbolsOf s len
-unfolding symbolsOf symbolCount
-symbols-ge s len = omega arith
+    at : (p q : Bool) (b : Accepted) → b .length ≡ len
+        → check p (Refused (refusalAt F (unreadableInData F symbols len)) (unreadableInData F symbols len)) (check q (Refused 12 0) (Payload b)) ≡ Payload a
+        → a .length ≡ len
+    at true true b g f = let same : a ≡ b = cc in rw same g
+    at true false b g f = absurd (let z : _≡_ {A = ℕ} 0 1 = cc in omega arith)
+    at false q b g f = absurd (let z : _≡_ {A = ℕ} 0 1 = cc in omega arith)
 
 -- the checks behind the header, in their order
-module _ (s : Settings) (symbols : List ℕ) (room len : ℕ) where
-  pub says-four : room < len → Refused 4 len ≡ bodyOf (s .sf) (s .low) symbols room len (s .cr) (s .checksum)
+module _ (F : Frame) (symbols : List ℕ) (room len : ℕ) where
+  pub says-four : room < len → Refused 4 len ≡ bodyOf F symbols room len
   unfolding bodyOf
   says-four h = rw (lt-leb _ _ h)
 
-  module _ {total : ℕ} (is : total ≡ symbolsOf s len) (fits : len ≤ room) where
-    pub says-five : length symbols < total → Refused 5 total ≡ bodyOf (s .sf) (s .low) symbols room len (s .cr) (s .checksum)
-    unfolding bodyOf totalOf symbolsOf
+  module _ {total : ℕ} (is : total ≡ symbolsOf F len) (fits : len ≤ room) where
+    pub says-five : length symbols < total → Refused 5 total ≡ bodyOf F symbols room len
+    unfolding bodyOf
     says-five h = rw (← is, le-leb _ _ fits, lt-leb _ _ h)
 
-    module _ {over : ℕ} (there : total ≤ length symbols) (found : over ≡ firstOver (s .sf) symbols (total - 8) 8) where
-      pub says-six : over < total → Refused 6 over ≡ bodyOf (s .sf) (s .low) symbols room len (s .cr) (s .checksum)
-      unfolding bodyOf totalOf symbolsOf
+    module _ {over : ℕ} (there : total ≤ length symbols) (found : over ≡ overInRest F symbols len) where
+      pub says-six : over < total → Refused 6 over ≡ bodyOf F symbols room len
+      unfolding bodyOf
       says-six h = rw (← is, ← found, le-leb _ _ fits, le-leb _ _ there, lt-leb _ _ h)
 
-      pub says-data : total ≤ over → dataOf (s .sf) (s .low) symbols len (s .cr) (s .checksum) ≡ bodyOf (s .sf) (s .low) symbols room len (s .cr) (s .checksum)
-      unfolding bodyOf totalOf symbolsOf
+      pub says-data : total ≤ over → dataOf F symbols len ≡ bodyOf F symbols room len
+      unfolding bodyOf dataOf
       says-data h = rw (← is, ← found, le-leb _ _ fits, le-leb _ _ there, le-leb _ _ h)
 
 -- a listed payload, copied out
@@ -152,13 +176,16 @@ pub copied : {payload : List ℕ} (n : ℕ) (byte : ℕ → ℕ) (d old : List �
 unfolding listed
 copied n byte d old e = over-cong n _ _ old (λ i l. rw e (getD-over n byte d i 0 l))
 
--- where head says a length and a rate, the frame behind it can be read on
-pub headed : (sf : ℕ) (low : Bool) (symbols : List ℕ) (len cr : ℕ) (flag : Bool) → Heads sf symbols len cr
-    → Headed (record { sf = sf; low = low; cr = cr; checksum = flag }) symbols len
-headed sf low symbols len cr flag h =
+-- where head says a header, the frame behind it can be read on
+pub headed : (sf : ℕ) (low : Bool) (symbols : List ℕ) (h : Header) {grid : List (List Bool)} {repairs : ℕ} → Heads sf h
+    → grid ≡ gridOfSymbols (firstBlock sf) symbols → repairs ≡ howMany (repairedAt (headerFound sf symbols)) 5
+    → Headed (frameSaid sf low (h .cr) (h .checked)) symbols (h .length) grid repairs
+headed sf low symbols h {grid} {repairs} p g r =
+    let F : Frame = frameSaid sf low (h .cr) (h .checked) in
+    let v : Valid F = record { sf-low = p .sf-low; sf-high = p .sf-high; cr-low = p .cr-low; cr-high = p .cr-high; header-high = omega arith } in
     record {
-      valid = record { sf-low = h .sf-low; sf-high = h .sf-high; cr-low = h .cr-low; cr-high = h .cr-high };
-      short = h .short;
-      eight = h .eight;
-      read = λ i l. ap isUnreadable (header-heard sf low cr symbols (h .sf-low) (h .sf-high) i l) ∙ h .read i l;
+      valid = v;
+      short = p .short;
+      first = g;
+      counts = r ∙ howMany-cong _ _ 5 (λ i l. ap isRepaired (sym (header-found F symbols v i l)));
     }

@@ -1,9 +1,9 @@
 -- The operation airtime. Document 01, "Time on air"; it checks 1, 2, 3, then 13.
 -- Assumes nothing.
-use mathlib.Core.Bool.{Bool}
+use mathlib.Core.Bool.{Bool, _||_}
 use Prim.Native.Nat.{ℕ, _+_, _*_, _/_, _^_}
 use lib.Dec.{eqb}
-use Rattle.bits.specs.Pick.{either, check}
+use Rattle.bits.specs.Check.{check}
 use Rattle.lora.specs.Count.{countOf}
 use Rattle.lora.specs.declared.Settings.{Settings}
 use Rattle.lora.specs.declared.Counted.{Counted}
@@ -13,7 +13,7 @@ use Rattle.lora.specs.declared.Lasting.the-variants.{Microseconds, Refus
 
 -- 125, 250 or 500 kHz
 unfoldable pub validBandwidth : ℕ → Bool
-validBandwidth khz = either (eqb khz 125) (either (eqb khz 250) (eqb khz 500))
+validBandwidth khz = eqb khz 125 || (eqb khz 250 || eqb khz 500)
 
 -- n upchirps, two sync chirps, 2.25 downchirps and S symbols: (4(n + S) + 17) x 2^SF x 250 / bandwidth
 unfoldable pub dividend : ℕ → ℕ → ℕ → ℕ

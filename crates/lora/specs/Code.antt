@@ -5,21 +5,22 @@ use mathlib.Core.Path.{_≡_}
 use Prim.Native.Nat.{ℕ}
 use lib.Dec.{leb}
 use lib.ListN.{length}
-use Rattle.bits.specs.Pick.{check}
+use Rattle.bits.specs.Check.{check}
 use Rattle.bits.specs.Tab.{over}
 use Rattle.coding.specs.Nibbles.{frameNibble}
 use Rattle.coding.specs.Symbols.{symbolAt}
 use Rattle.header.specs.Header.{headerNibbles}
-use Rattle.lora.specs.Count.{countOf}
+use Rattle.lora.specs.Count.{frameOf, countOf}
 use Rattle.lora.specs.declared.Settings.{Settings}
 use Rattle.lora.specs.declared.Counted.{Counted}
 use Rattle.lora.specs.declared.Counted.the-variants.{Symbols, Refused}
 
--- symbol t of the frame with these settings and this payload
+-- nibble i of the frame with these settings and this payload, and symbol t of it
+unfoldable pub sentNibble : Settings → List ℕ → ℕ → ℕ
+sentNibble s payload = frameNibble (headerNibbles (length payload) (s .cr) (s .checked)) payload (s .checked)
+
 unfoldable pub sentSymbol : Settings → List ℕ → ℕ → ℕ
-sentSymbol s payload =
-    symbolAt (s .sf) (s .low) (s .cr)
-    (frameNibble (headerNibbles (length payload) (s .cr) (s .checksum)) payload (s .checksum))
+sentSymbol s payload = symbolAt (frameOf s) (sentNibble s payload)
 
 -- count's checks, then 4 for the lent list
 abbrev pub fitting : Counted → ℕ → Counted

@@ -5,15 +5,15 @@ use mathlib.Core.List.{List}
 use Prim.Native.Nat.{ℕ, _^_}
 use lib.Dec.{leb}
 use lib.ListN.{length, getD}
-use Rattle.bits.specs.Pick.{check}
+use Rattle.bits.specs.Check.{check}
 use Rattle.bits.specs.Search.{first}
 use Rattle.bits.specs.Tab.{tab}
-use Rattle.codeword.specs.declared.Heard.{Heard}
+use Rattle.codeword.specs.declared.Found.{Found}
 use Rattle.header.specs.Header.{verdictOf}
 use Rattle.header.specs.declared.Verdict.{Verdict}
 use Rattle.header.specs.declared.Verdict.the-variants.{Says as HeaderSays, Refused as HeaderRefused}
 use Rattle.layout.specs.Layout.{validSf, firstBlock}
-use Rattle.reading.specs.Heard.{heardInBlock, badAt, nibbleAt}
+use Rattle.reading.specs.Found.{foundInBlock, unreadableAt, nibbleAt}
 use Rattle.lora.specs.declared.Heading.{Heading}
 use Rattle.lora.specs.declared.Heading.the-variants.{Says, Refused}
 
@@ -26,26 +26,26 @@ unfoldable pub firstOver : ℕ → List ℕ → ℕ → ℕ → ℕ
 firstOver sf symbols n i = first (isOver sf symbols) n i
 
 -- what codeword i of block 0 is read as
-unfoldable pub headerHeard : ℕ → List ℕ → ℕ → Heard
-headerHeard sf symbols = heardInBlock (firstBlock sf) symbols
+unfoldable pub headerFound : ℕ → List ℕ → ℕ → Found
+headerFound sf symbols = foundInBlock (firstBlock sf) symbols
 
--- the first of codewords 0 to 4 that can't be read; 5 where there is none
-unfoldable pub badInHeader : ℕ → List ℕ → ℕ
-badInHeader sf symbols = first (badAt (headerHeard sf symbols)) 5 0
+-- the first of the codewords 0 to 4, found to be so, that can't be read; 5 where there is none
+unfoldable pub unreadableInHeader : (ℕ → Found) → ℕ
+unreadableInHeader found = first (unreadableAt found) 5 0
 
 abbrev pub said : Verdict → Heading
-said (HeaderSays len cr flag) = Says len cr flag
+said (HeaderSays h) = Says h
 said (HeaderRefused number) = Refused number 0
 
 -- 7 over codewords 0 to 4; 9; 10; 11
-unfoldable pub headerOf : ℕ → List ℕ → Heading
-headerOf sf symbols =
-    check (leb 5 (badInHeader sf symbols)) (Refused 7 (badInHeader sf symbols))
-    (said (verdictOf (tab 5 (nibbleAt (headerHeard sf symbols)))))
+unfoldable pub headerOf : (ℕ → Found) → Heading
+headerOf found =
+    check (leb 5 (unreadableInHeader found)) (Refused 7 (unreadableInHeader found))
+    (said (verdictOf (tab 5 (nibbleAt found))))
 
 unfoldable pub headOf : ℕ → List ℕ → Heading
 headOf sf symbols =
     check (validSf sf) (Refused 1 0)
     (check (leb 8 (length symbols)) (Refused 5 8)
     (check (leb 8 (firstOver sf symbols 8 0)) (Refused 6 (firstOver sf symbols 8 0))
-    (headerOf sf symbols)))
+    (headerOf (headerFound sf symbols))))

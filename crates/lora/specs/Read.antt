@@ -1,82 +1,82 @@
 -- The operation read: it checks what head checks; then 4 for the payload; 5 for the whole frame; 6 over the rest; 7 and 8 over
 -- data codewords in frame order; 12. Symbols after the frame's own are ignored, fillers are skipped.
 -- Assumes nothing.
-use mathlib.Core.Bool.{Bool, true}
+use mathlib.Core.Bool.{Bool, true, cond}
 use mathlib.Core.List.{List}
 use mathlib.Core.Path.{_≡_}
 use Prim.Native.Nat.{ℕ, _-_}
 use lib.Dec.{leb, eqb}
 use lib.ListN.{length}
-use Rattle.bits.specs.Pick.{pick, check}
+use Rattle.bits.specs.Check.{check}
 use Rattle.bits.specs.Search.{first, howMany}
 use Rattle.bits.specs.Tab.{tab, over}
 use Rattle.checksum.specs.Checksum.{checksum}
-use Rattle.layout.specs.Layout.{blockOf, blockOfCodeword, dataNibbles, symbolCount}
-use Rattle.reading.specs.Heard.{heardAt, badAt, mendedAt, nibbleAt}
+use Rattle.layout.specs.Layout.{blockOf, blockOfCodeword, dataNibbles, nibblesOf, symbolsOf}
+use Rattle.layout.specs.declared.Frame.{Frame}
+use Rattle.reading.specs.Found.{foundAt, unreadableAt, repairedAt, nibbleAt}
 use Rattle.reading.specs.Payload.{payloadByte, sentChecksum}
-use Rattle.lora.specs.Count.{nibblesOf}
 use Rattle.lora.specs.Head.{firstOver, headOf}
+use Rattle.lora.specs.declared.Accepted.{Accepted}
 use Rattle.lora.specs.declared.Heading.{Heading}
 use Rattle.lora.specs.declared.Heading.the-variants.{Says, Refused as HeadRefused}
 use Rattle.lora.specs.declared.Received.{Received}
 use Rattle.lora.specs.declared.Received.the-variants.{Payload, Refused}
 
--- the nibble that codeword i is read as
-unfoldable pub nibbleHeard : ℕ → Bool → ℕ → List ℕ → ℕ → ℕ
-nibbleHeard sf low cr symbols = nibbleAt (heardAt sf low cr symbols)
-
--- byte p of the payload as it is read
-unfoldable pub byteHeard : ℕ → Bool → ℕ → List ℕ → ℕ → ℕ
-byteHeard sf low cr symbols = payloadByte 5 (nibbleHeard sf low cr symbols)
-
--- with the checksum flag on, the remainder of the payload read is the checksum read
-unfoldable pub sumHolds : ℕ → Bool → ℕ → List ℕ → ℕ → Bool → Bool
-sumHolds sf low cr symbols len flag =
-    pick flag (eqb (checksum (tab len (byteHeard sf low cr symbols))) (sentChecksum 5 (nibbleHeard sf low cr symbols) len)) true
+-- 6 over the rest: the first symbol behind block 0 that is 2^SF or more
+unfoldable pub overInRest : Frame → List ℕ → ℕ → ℕ
+overInRest F symbols len = firstOver (F .sf) symbols (symbolsOf F len - 8) 8
 
 -- the first data codeword that can't be read, and the number of that refusal: 8 at 4/7, else 7
-unfoldable pub badInData : ℕ → Bool → ℕ → List ℕ → ℕ → Bool → ℕ
-badInData sf low cr symbols len flag = first (badAt (heardAt sf low cr symbols)) (dataNibbles len flag) 5
+unfoldable pub unreadableInData : Frame → List ℕ → ℕ → ℕ
+unreadableInData F symbols len = first (unreadableAt (foundAt F symbols)) (dataNibbles len (F .checked)) (F .header)
 
-unfoldable pub refusalAt : ℕ → Bool → ℕ → ℕ → ℕ
-refusalAt sf low cr i = pick (eqb (blockOf sf low cr (blockOfCodeword sf low i) .rate) 3) 8 7
+unfoldable pub refusalAt : Frame → ℕ → ℕ
+refusalAt F i = cond (eqb (blockOf F (blockOfCodeword F i) .rate) 3) 8 7
+
+-- the nibble that codeword i is read as, and byte p of the payload
+unfoldable pub nibbleFound : Frame → List ℕ → ℕ → ℕ
+nibbleFound F symbols = nibbleAt (foundAt F symbols)
+
+unfoldable pub byteFound : Frame → List ℕ → ℕ → ℕ
+byteFound F symbols = payloadByte (F .header) (nibbleFound F symbols)
+
+-- 12: with the checksum flag on, the remainder of the payload read is the checksum read
+unfoldable pub sumHolds : Frame → List ℕ → ℕ → Bool
+sumHolds F symbols len =
+    cond (F .checked) (eqb (checksum (tab len (byteFound F symbols))) (sentChecksum (F .header) (nibbleFound F symbols) len)) true
 
 -- the read codewords, header included and fillers not, that were one bit from the code
-unfoldable pub repairsOf : ℕ → Bool → ℕ → List ℕ → ℕ → Bool → ℕ
-repairsOf sf low cr symbols len flag = howMany (mendedAt (heardAt sf low cr symbols)) (nibblesOf len flag)
+unfoldable pub repairsOf : Frame → List ℕ → ℕ → ℕ
+repairsOf F symbols len = howMany (repairedAt (foundAt F symbols)) (nibblesOf F len)
 
--- the symbols of the whole frame
-unfoldable pub totalOf : ℕ → Bool → ℕ → ℕ → Bool → ℕ
-totalOf sf low cr len flag = symbolCount sf low cr (nibblesOf len flag)
+unfoldable pub acceptedOf : Frame → List ℕ → ℕ → Accepted
+acceptedOf F symbols len =
+    record { length = len; cr = F .cr; checked = F .checked; symbols = symbolsOf F len; repairs = repairsOf F symbols len }
 
--- 7 and 8 over data codewords in frame order; 12
-unfoldable pub dataOf : ℕ → Bool → List ℕ → ℕ → ℕ → Bool → Received
-dataOf sf low symbols len cr flag =
-    let bad : ℕ = badInData sf low cr symbols len flag in
-    check (leb (nibblesOf len flag) bad) (Refused (refusalAt sf low cr bad) bad)
-    (check (sumHolds sf low cr symbols len flag) (Refused 12 0)
-    (Payload len cr flag (totalOf sf low cr len flag) (repairsOf sf low cr symbols len flag)))
-
--- once the header says length, CR and flag: 4 for the payload; 5 for the whole frame; 6 over the rest
-unfoldable pub bodyOf : ℕ → Bool → List ℕ → ℕ → ℕ → ℕ → Bool → Received
-bodyOf sf low symbols room len cr flag =
-    let total : ℕ = totalOf sf low cr len flag in
-    let over : ℕ = firstOver sf symbols (total - 8) 8 in
+-- what is checked behind the header, and the answer
+unfoldable pub bodyOf : Frame → List ℕ → ℕ → ℕ → Received
+bodyOf F symbols room len =
     check (leb len room) (Refused 4 len)
-    (check (leb total (length symbols)) (Refused 5 total)
-    (check (leb total over) (Refused 6 over)
-    (dataOf sf low symbols len cr flag)))
+    (check (leb (symbolsOf F len) (length symbols)) (Refused 5 (symbolsOf F len))
+    (check (leb (symbolsOf F len) (overInRest F symbols len)) (Refused 6 (overInRest F symbols len))
+    (check (leb (nibblesOf F len) (unreadableInData F symbols len)) (Refused (refusalAt F (unreadableInData F symbols len)) (unreadableInData F symbols len))
+    (check (sumHolds F symbols len) (Refused 12 0)
+    (Payload (acceptedOf F symbols len))))))
+
+-- the frame whose header says this CR and this checksum flag
+abbrev pub frameSaid : ℕ → Bool → ℕ → Bool → Frame
+frameSaid sf low cr flag = record { sf = sf; low = low; cr = cr; checked = flag; header = 5 }
 
 abbrev pub onward : Heading → ℕ → Bool → List ℕ → ℕ → Received
 onward (HeadRefused number place) sf low symbols room = Refused number place
-onward (Says len cr flag) sf low symbols room = bodyOf sf low symbols room len cr flag
+onward (Says h) sf low symbols room = bodyOf (frameSaid sf low (h .cr) (h .checked)) symbols room (h .length)
 
 unfoldable pub readOf : ℕ → Bool → List ℕ → ℕ → Received
 readOf sf low symbols room = onward (headOf sf symbols) sf low symbols room
 
 -- the lent buffer afterwards: the payload and what stood behind it; after a refusal as it was
 abbrev pub bytesAfter : Received → ℕ → Bool → List ℕ → List ℕ → List ℕ
-bytesAfter (Payload len cr flag total repairs) sf low symbols old = over len (byteHeard sf low cr symbols) old
+bytesAfter (Payload a) sf low symbols old = over (a .length) (byteFound (frameSaid sf low (a .cr) (a .checked)) symbols) old
 bytesAfter (Refused number place) sf low symbols old = old
 
 pub record Reading (sf : ℕ) (low : Bool) (symbols old new : List ℕ) (r : Received) : Type 0 where

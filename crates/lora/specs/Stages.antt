@@ -1,49 +1,81 @@
 -- What the inner steps of read are asked with and answer. Nothing here is part of an offered operation's contract.
 -- Assumes nothing.
-use mathlib.Core.Bool.{Bool, true, false}
+use mathlib.Core.Bool.{Bool, true, cond}
 use mathlib.Core.List.{List}
 use mathlib.Core.Path.{_≡_}
-use Prim.Native.Nat.{ℕ, _≤_, _<_}
-use lib.Dec.{eqb}
+use Prim.Native.Nat.{ℕ, _≤_}
+use lib.Dec.{eqb, leb}
 use lib.ListN.{length, take}
-use Rattle.bits.specs.Pick.{pick}
+use Rattle.bits.specs.Check.{check}
+use Rattle.bits.specs.Search.{howMany}
 use Rattle.bits.specs.Tab.{over, blank}
 use Rattle.checksum.specs.Checksum.{checksum}
-use Rattle.layout.specs.Layout.{Valid}
-use Rattle.reading.specs.Heard.{heardAt, badAt}
-use Rattle.reading.specs.Payload.{listed, sentChecksum}
-use Rattle.lora.specs.Count.{symbolsOf}
-use Rattle.lora.specs.Read.{byteHeard, dataOf, bodyOf, bytesAfter}
-use Rattle.lora.specs.declared.Settings.{Settings}
+use Rattle.codeword.specs.declared.Found.{Found}
+use Rattle.header.specs.declared.Header.{Header}
+use Rattle.layout.specs.Layout.{firstBlock, nibblesOf, symbolsOf}
+use Rattle.layout.specs.Ranges.{Valid}
+use Rattle.layout.specs.declared.Frame.{Frame}
+use Rattle.reading.specs.Found.{foundAt, repairedAt}
+use Rattle.reading.specs.Payload.{sentChecksum}
+use Rattle.reading.specs.Stages.{gridOfSymbols, listed}
+use Rattle.lora.specs.Head.{headerFound, headerOf, headOf}
+use Rattle.lora.specs.Read.{unreadableInData, refusalAt, sumHolds, acceptedOf, byteFound, bodyOf}
+use Rattle.lora.specs.declared.opening.Entry.{Entry}
+use Rattle.lora.specs.declared.opening.Entry.the-variants.{Passed, Refused as EntryRefused}
+use Rattle.lora.specs.declared.Heading.{Heading}
+use Rattle.lora.specs.declared.Heading.the-variants.{Says, Refused as HeadRefused}
 use Rattle.lora.specs.declared.Received.{Received}
 use Rattle.lora.specs.declared.Received.the-variants.{Payload, Refused}
 
--- the checksum of the listed payload is that among the listed nibbles, where the flag is on
-unfoldable pub sumAgrees : Bool → ℕ → List ℕ → List ℕ → Bool
-sumAgrees flag len payload nibbles = pick flag (eqb (checksum (take len payload)) (sentChecksum 5 (listed nibbles) len)) true
+-- head's checks before the header, passed or not
+abbrev pub Entered : Entry → ℕ → List ℕ → Type 0
+Entered Passed sf symbols = (7 ≤ sf) × (sf ≤ 12) × (8 ≤ length symbols) × (headOf sf symbols ≡ headerOf (headerFound sf symbols))
+Entered (EntryRefused number place) sf symbols = headOf sf symbols ≡ HeadRefused number place
 
--- a header was read: the settings it says are valid, and codewords 0 to 4 can be read
-pub record Headed (s : Settings) (symbols : List ℕ) (len : ℕ) : Type 0 where
-  pub valid : Valid (s .sf) (s .cr)
+-- what codewords, found to be so, say as a header; and where they say one, the repairs among them
+pub record Opening (found : ℕ → Found) (heading : Heading) (repairs : ℕ) : Type 0 where
+  pub says : heading ≡ headerOf found
+  pub counts : (h : Header) → heading ≡ Says h → repairs ≡ howMany (repairedAt found) 5
+
+-- a header was read: the frame that it says is valid, block 0 is in the grid, and its repairs are counted
+pub record Headed (F : Frame) (symbols : List ℕ) (len : ℕ) (grid : List (List Bool)) (repairs : ℕ) : Type 0 where
+  pub valid : Valid F
   pub short : len ≤ 255
-  pub eight : 8 ≤ length symbols
-  pub read : (i : ℕ) → i < 5 → badAt (heardAt (s .sf) (s .low) (s .cr) symbols) i ≡ false
+  pub first : grid ≡ gridOfSymbols (firstBlock (F .sf)) symbols
+  pub counts : repairs ≡ howMany (repairedAt (foundAt F symbols)) (F .header)
 
 -- and the whole frame is there
-pub record Decodable (s : Settings) (symbols : List ℕ) (len total : ℕ) : Type 0 where
-  pub headed : Headed s symbols len
-  pub whole : total ≡ symbolsOf s len
+pub record Decodable (F : Frame) (symbols : List ℕ) (len : ℕ) (grid : List (List Bool)) (repairs total : ℕ) : Type 0 where
+  pub headed : Headed F symbols len grid repairs
+  pub whole : total ≡ symbolsOf F len
   pub there : total ≤ length symbols
 
+-- the checksum of the listed payload is that among the listed nibbles, where there is one
+unfoldable pub sumAgrees : Frame → ℕ → List ℕ → List ℕ → Bool
+sumAgrees F len payload nibbles =
+    cond (F .checked) (eqb (checksum (take len payload)) (sentChecksum (F .header) (listed nibbles) len)) true
+
+-- the checks of read from 7 on
+unfoldable pub dataOf : Frame → List ℕ → ℕ → Received
+dataOf F symbols len =
+    check (leb (nibblesOf F len) (unreadableInData F symbols len)) (Refused (refusalAt F (unreadableInData F symbols len)) (unreadableInData F symbols len))
+    (check (sumHolds F symbols len) (Refused 12 0)
+    (Payload (acceptedOf F symbols len)))
+
 -- the payload's bytes, said of an answer that has them
-abbrev pub Held : Received → Settings → List ℕ → List ℕ → Type 0
-Held (Payload len cr flag total repairs) s symbols payload = payload ≡ over len (byteHeard (s .sf) (s .low) cr symbols) (blank 255 0)
-Held (Refused number place) s symbols payload = Unit
+abbrev pub Held : Received → Frame → List ℕ → List ℕ → Type 0
+Held (Payload a) F symbols payload = payload ≡ over (a .length) (byteFound F symbols) (blank 255 0)
+Held (Refused number place) F symbols payload = Unit
 
-pub record Decoded (s : Settings) (symbols : List ℕ) (len : ℕ) (payload : List ℕ) (answer : Received) : Type 0 where
-  pub says : answer ≡ dataOf (s .sf) (s .low) symbols len (s .cr) (s .checksum)
-  pub held : Held answer s symbols payload
+pub record Decoded (F : Frame) (symbols : List ℕ) (len : ℕ) (payload : List ℕ) (answer : Received) : Type 0 where
+  pub says : answer ≡ dataOf F symbols len
+  pub held : Held answer F symbols payload
 
-pub record Bodied (s : Settings) (symbols : List ℕ) (len : ℕ) (old new : List ℕ) (r : Received) : Type 0 where
-  pub answer : r ≡ bodyOf (s .sf) (s .low) symbols (length old) len (s .cr) (s .checksum)
-  pub cells : new ≡ bytesAfter r (s .sf) (s .low) symbols old
+-- the lent buffer afterwards
+abbrev pub bytesRead : Received → Frame → List ℕ → List ℕ → List ℕ
+bytesRead (Payload a) F symbols old = over (a .length) (byteFound F symbols) old
+bytesRead (Refused number place) F symbols old = old
+
+pub record Bodied (F : Frame) (symbols : List ℕ) (len : ℕ) (old new : List ℕ) (r : Received) : Type 0 where
+  pub answer : r ≡ bodyOf F symbols (length old) len
+  pub cells : new ≡ bytesRead r F symbols old

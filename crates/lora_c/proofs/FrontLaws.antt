@@ -1,34 +1,18 @@
 -- Laws of the cells at the front of a list, and of the answers exported.
 -- Assumes nothing.
-use mathlib.Core.List.{List, [], _∷_}
-use mathlib.Core.Path.{_≡_, refl}
+use mathlib.Core.List.{List, _++_}
+use mathlib.Core.Path.{_≡_, ap}
 use Prim.Native.Nat.{ℕ, _<_, _≤_}
-use native.Mathlib.Omega.{arith}
 use borrow.Author.Tests.{lt-ltb, le-ltb}
-use lib.ListN.{length, set}
+use lib.ListN.{length, getD, drop}
+use Rattle.bits.specs.Tab.{over}
+use Rattle.bits.proofs.Tabs.{tab-getD}
 use Rattle.lora_c.specs.Export.{front, Exported, Lent}
 
--- one store makes one cell at the front
-pub front1 : (old : List ℕ) (a : ℕ) → 1 ≤ length old → set old 0 a ≡ front (a ∷ []) old
+-- cells put one after the other are cells at the front
+pub front-by : (cells old : List ℕ) → over (length cells) (λ i. getD cells i 0) old ≡ front cells old
 unfolding front
-front1 [] a h = absurd (omega arith)
-front1 (x ∷ old) a h = refl
-
-pub front3 : (old : List ℕ) (a b c : ℕ) → 3 ≤ length old → set (set (set old 0 a) 1 b) 2 c ≡ front (a ∷ b ∷ c ∷ []) old
-unfolding front
-front3 [] a b c h = absurd (omega arith)
-front3 (x ∷ []) a b c h = absurd (omega arith)
-front3 (x ∷ y ∷ []) a b c h = absurd (omega arith)
-front3 (x ∷ y ∷ z ∷ old) a b c h = refl
-
-pub front5 : (old : List ℕ) (a b c d e : ℕ) → 5 ≤ length old → set (set (set (set (set old 0 a) 1 b) 2 c) 3 d) 4 e ≡ front (a ∷ b ∷ c ∷ d ∷ e ∷ []) old
-unfolding front
-front5 [] a b c d e h = absurd (omega arith)
-front5 (v ∷ []) a b c d e h = absurd (omega arith)
-front5 (v ∷ w ∷ []) a b c d e h = absurd (omega arith)
-front5 (v ∷ w ∷ x ∷ []) a b c d e h = absurd (omega arith)
-front5 (v ∷ w ∷ x ∷ y ∷ []) a b c d e h = absurd (omega arith)
-front5 (v ∷ w ∷ x ∷ y ∷ z ∷ old) a b c d e h = refl
+front-by cells old = ap (λ (l : List ℕ). l ++ drop (length cells) old) (tab-getD cells 0)
 
 -- too few cells: 255, and the array as it was
 pub short : {need code : ℕ} {cells old : List ℕ} → length old < need → Exported need code cells old old 255

@@ -7,7 +7,7 @@ use Prim.Native.Nat.{ℕ}
 use lib.Dec.{eqb, ltb}
 use lib.ListN.{length, drop}
 use Rattle.bits.specs.Bit.{asBit}
-use Rattle.bits.specs.Pick.{check}
+use Rattle.bits.specs.Check.{check}
 use Rattle.lora.specs.Code.{symbolsAfter}
 use Rattle.lora.specs.Read.{bytesAfter}
 use Rattle.lora.specs.declared.Settings.{Settings}
@@ -25,7 +25,7 @@ abbrev pub flagOf : ℕ → Bool
 flagOf b = not (eqb b 0)
 
 abbrev pub settingsOf : ℕ → ℕ → ℕ → ℕ → Settings
-settingsOf sf low cr checksum = record { sf = sf; low = flagOf low; cr = cr; checksum = flagOf checksum }
+settingsOf sf low cr checked = record { sf = sf; low = flagOf low; cr = cr; checked = flagOf checked }
 
 -- the number returned: 0 for an acceptance, else the refusal's
 abbrev pub codeOfCounted : Counted → ℕ
@@ -37,11 +37,11 @@ codeOfLasting (Microseconds time) = 0
 codeOfLasting (TimeRefused number place) = number
 
 abbrev pub codeOfHeading : Heading → ℕ
-codeOfHeading (Says len cr flag) = 0
+codeOfHeading (Says h) = 0
 codeOfHeading (HeadRefused number place) = number
 
 abbrev pub codeOfReceived : Received → ℕ
-codeOfReceived (Payload len cr flag total repairs) = 0
+codeOfReceived (Payload a) = 0
 codeOfReceived (Refused number place) = number
 
 -- the cells written: an acceptance's values, a refusal's place
@@ -54,11 +54,11 @@ cellsOfLasting (Microseconds time) = time ∷ []
 cellsOfLasting (TimeRefused number place) = place ∷ []
 
 abbrev pub cellsOfHeading : Heading → List ℕ
-cellsOfHeading (Says len cr flag) = len ∷ cr ∷ asBit flag ∷ []
+cellsOfHeading (Says h) = h .length ∷ h .cr ∷ asBit (h .checked) ∷ []
 cellsOfHeading (HeadRefused number place) = place ∷ []
 
 abbrev pub cellsOfReceived : Received → List ℕ
-cellsOfReceived (Payload len cr flag total repairs) = len ∷ cr ∷ asBit flag ∷ total ∷ repairs ∷ []
+cellsOfReceived (Payload a) = a .length ∷ a .cr ∷ asBit (a .checked) ∷ a .symbols ∷ a .repairs ∷ []
 cellsOfReceived (Refused number place) = place ∷ []
 
 -- cells at the front of a list, and the rest as it was

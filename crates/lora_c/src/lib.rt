@@ -1,7 +1,6 @@
 // The five operations for C and Rust. A flag is 0 for off, any other number for on. Each returns 0 for an acceptance, a
 // refusal's number with its place in answer[0], or 255 where `answer` has too few cells, and then nothing is written.
 ghost use mathlib.Core.Path.{_≡_};
-ghost use mathlib.Core.List.{[], _∷_};
 ghost use Prim.Native.Nat.{_≤_};
 ghost use lib.ListN.{length};
 ghost use Rattle.bits.specs.Bit.{asBit};
@@ -17,15 +16,18 @@ use lora::Lasting;
 use lora::Received;
 use lora::Settings;
 
+// Returned where `answer` has too few cells; no refusal has this number.
+const ANSWER_SHORT: u8 = 255;
+
 // Settings with both flags as numbers.
-fn settings_of(sf: u8, low: u8, cr: u8, checksum: u8) -> Settings
-    ensures { λ r. ⌜ r ≡ settingsOf sf low cr checksum ⌝ }
+fn settings_of(sf: u8, low: u8, cr: u8, checked: u8) -> Settings
+    ensures { λ r. ⌜ r ≡ settingsOf sf low cr checked ⌝ }
 {
     Settings {
         sf,
         low: low != 0,
         cr,
-        checksum: checksum != 0,
+        checked: checked != 0,
     }
 }
 
@@ -36,32 +38,14 @@ fn flag(b: bool) -> u64
     if b { 1 } else { 0 }
 }
 
-// put1, put3, put5: write the first cells of `answer`.
-fn put1(answer: &mut [u64], a: u64)
-    requires { ⌜ 1 ≤ length (now answer) ⌝ }
-    ensures { λ _. ⌜ now (answer .exit) ≡ front (a ∷ []) (now (answer .entry)) ⌝ }
+// Writes the first cells of `answer`.
+fn put(answer: &mut [u64], cells: &[u64])
+    requires { ⌜ length (now cells) ≤ length (now answer) ⌝ }
+    ensures { λ _. ⌜ now (answer .exit) ≡ front (now (cells .entry)) (now (answer .entry)) ⌝ }
 {
-    answer[0] = a;
-}
-
-fn put3(answer: &mut [u64], a: u64, b: u64, c: u64)
-    requires { ⌜ 3 ≤ length (now answer) ⌝ }
-    ensures { λ _. ⌜ now (answer .exit) ≡ front (a ∷ b ∷ c ∷ []) (now (answer .entry)) ⌝ }
-{
-    answer[0] = a;
-    answer[1] = b;
-    answer[2] = c;
-}
-
-fn put5(answer: &mut [u64], a: u64, b: u64, c: u64, d: u64, e: u64)
-    requires { ⌜ 5 ≤ length (now answer) ⌝ }
-    ensures { λ _. ⌜ now (answer .exit) ≡ front (a ∷ b ∷ c ∷ d ∷ e ∷ []) (now (answer .entry)) ⌝ }
-{
-    answer[0] = a;
-    answer[1] = b;
-    answer[2] = c;
-    answer[3] = d;
-    answer[4] = e;
+    for i in 0..cells.len() {
+        answer[i] = cells[i];
+    }
 }
 
 // How many symbols a frame has. answer[0] on acceptance: the count.
@@ -70,23 +54,23 @@ pub extern "C" fn lora_count(
     sf: u8,
     low: u8,
     cr: u8,
-    checksum: u8,
+    checked: u8,
     len: usize,
     answer: &mut [u64],
 ) -> u8
-    ensures { λ r. ⌜ CountExported (countOf (settingsOf sf low cr checksum) len) (now (answer .entry)) (now (answer .exit)) r ⌝ }
+    ensures { λ r. ⌜ CountExported (countOf (settingsOf sf low cr checked) len) (now (answer .entry)) (now (answer .exit)) r ⌝ }
 {
     if answer.len() < 1 {
-        return 255;
+        return ANSWER_SHORT;
     }
-    let counted = lora::count(settings_of(sf, low, cr, checksum), len);
+    let counted = lora::count(settings_of(sf, low, cr, checked), len);
     match counted {
         Counted::Refused { number, place } => {
-            put1(answer, place as u64);
+            put(answer, &[place as u64]);
             number
         }
         Counted::Symbols { count } => {
-            put1(answer, count as u64);
+            put(answer, &[count as u64]);
             0
         }
     }
@@ -98,25 +82,25 @@ pub extern "C" fn lora_airtime(
     sf: u8,
     low: u8,
     cr: u8,
-    checksum: u8,
+    checked: u8,
     len: usize,
     khz: u16,
     preamble: u16,
     answer: &mut [u64],
 ) -> u8
-    ensures { λ r. ⌜ TimeExported (airtimeOf (settingsOf sf low cr checksum) len khz preamble) (now (answer .entry)) (now (answer .exit)) r ⌝ }
+    ensures { λ r. ⌜ TimeExported (airtimeOf (settingsOf sf low cr checked) len khz preamble) (now (answer .entry)) (now (answer .exit)) r ⌝ }
 {
     if answer.len() < 1 {
-        return 255;
+        return ANSWER_SHORT;
     }
-    let lasting = lora::airtime(settings_of(sf, low, cr, checksum), len, khz, preamble);
+    let lasting = lora::airtime(settings_of(sf, low, cr, checked), len, khz, preamble);
     match lasting {
         Lasting::Refused { number, place } => {
-            put1(answer, place as u64);
+            put(answer, &[place as u64]);
             number
         }
         Lasting::Microseconds { time } => {
-            put1(answer, time);
+            put(answer, &[time]);
             0
         }
     }
@@ -128,24 +112,24 @@ pub extern "C" fn lora_code(
     sf: u8,
     low: u8,
     cr: u8,
-    checksum: u8,
+    checked: u8,
     payload: &[u8],
     out: &mut [u16],
     answer: &mut [u64],
 ) -> u8
-    ensures { λ r. ⌜ CodeExported (codeOf (settingsOf sf low cr checksum) (now (payload .entry)) (length (now (out .entry)))) (settingsOf sf low cr checksum) (now (payload .entry)) (now (out .entry)) (now (out .exit)) (now (answer .entry)) (now (answer .exit)) r ⌝ }
+    ensures { λ r. ⌜ CodeExported (codeOf (settingsOf sf low cr checked) (now (payload .entry)) (length (now (out .entry)))) (settingsOf sf low cr checked) (now (payload .entry)) (now (out .entry)) (now (out .exit)) (now (answer .entry)) (now (answer .exit)) r ⌝ }
 {
     if answer.len() < 1 {
-        return 255;
+        return ANSWER_SHORT;
     }
-    let counted = lora::code(settings_of(sf, low, cr, checksum), payload, out);
+    let counted = lora::code(settings_of(sf, low, cr, checked), payload, out);
     match counted {
         Counted::Refused { number, place } => {
-            put1(answer, place as u64);
+            put(answer, &[place as u64]);
             number
         }
         Counted::Symbols { count } => {
-            put1(answer, count as u64);
+            put(answer, &[count as u64]);
             0
         }
     }
@@ -157,20 +141,16 @@ pub extern "C" fn lora_head(sf: u8, symbols: &[u16], answer: &mut [u64]) -> u8
     ensures { λ r. ⌜ HeadExported (headOf sf (now (symbols .entry))) (now (answer .entry)) (now (answer .exit)) r ⌝ }
 {
     if answer.len() < 3 {
-        return 255;
+        return ANSWER_SHORT;
     }
     let heading = lora::head(sf, symbols);
     match heading {
         Heading::Refused { number, place } => {
-            put1(answer, place as u64);
+            put(answer, &[place as u64]);
             number
         }
-        Heading::Says {
-            length,
-            cr,
-            checksum,
-        } => {
-            put3(answer, length as u64, cr as u64, flag(checksum));
+        Heading::Says(h) => {
+            put(answer, &[h.length as u64, h.cr as u64, flag(h.checked)]);
             0
         }
     }
@@ -188,28 +168,24 @@ pub extern "C" fn lora_read(
     ensures { λ r. ⌜ ReadExported (readOf sf (flagOf low) (now (symbols .entry)) (length (now (out .entry)))) sf (flagOf low) (now (symbols .entry)) (now (out .entry)) (now (out .exit)) (now (answer .entry)) (now (answer .exit)) r ⌝ }
 {
     if answer.len() < 5 {
-        return 255;
+        return ANSWER_SHORT;
     }
     let received = lora::read(sf, low != 0, symbols, out);
     match received {
         Received::Refused { number, place } => {
-            put1(answer, place as u64);
+            put(answer, &[place as u64]);
             number
         }
-        Received::Payload {
-            length,
-            cr,
-            checksum,
-            symbols,
-            repairs,
-        } => {
-            put5(
+        Received::Payload(a) => {
+            put(
                 answer,
-                length as u64,
-                cr as u64,
-                flag(checksum),
-                symbols as u64,
-                repairs as u64,
+                &[
+                    a.length as u64,
+                    a.cr as u64,
+                    flag(a.checked),
+                    a.symbols as u64,
+                    a.repairs as u64,
+                ],
             );
             0
         }

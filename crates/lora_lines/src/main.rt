@@ -1,4 +1,4 @@
-// A day's captures in one run: standard input is cut at each byte 10, and each piece is a frame's text, answered by one
+// Captured frames, many in one run: standard input is cut at each byte 10, and each piece is a frame's text, answered by one
 // line, in order. An empty last piece is none.
 use libc::STDOUT_FILENO;
 use system::Asked;

@@ -2,9 +2,9 @@
 ghost use mathlib.Core.Path.{_≡_};
 ghost use Prim.Native.Nat.{_≤_};
 ghost use lib.ListN.{length};
-ghost use Rattle.system.specs.Calls.{Within};
+ghost use Rattle.system.specs.Calls.{Within, Printing};
 ghost use Rattle.text.specs.Scan.{Sane, stateOf, lineAt};
-ghost use Rattle.lora_read.specs.Turns.{Follows, Finished, Printing};
+ghost use Rattle.lora_read.specs.Turns.{Follows, Finished};
 use libc::STDOUT_FILENO;
 use system::Asked;
 use system::Got;
@@ -21,7 +21,7 @@ enum Turn {
 // What a read gave, taken into the text.
 fn take_got(got: Got, scan: Scan, buffer: &[u8], numbers: &mut [u16]) -> Turn
     requires { ⌜ Within got (now buffer) × Sane scan (now numbers) ⌝ }
-    ensures { λ r. ⌜ Follows got r scan (stateOf scan (now (numbers .entry))) (now (buffer .entry)) (now (numbers .exit)) ⌝ }
+    ensures { λ r. ⌜ Follows r got scan (stateOf scan (now (numbers .entry))) (now (buffer .entry)) (now (numbers .exit)) ⌝ }
 {
     match got {
         Got::Bytes(n) => Turn::More(text::feed(scan, &buffer[..n], numbers)),
@@ -62,8 +62,7 @@ fn print(scan: Scan, numbers: &mut [u16], line: &mut [u8]) -> Sent
     ensures { λ r. ⌜ Printing (lineAt (stateOf scan (now (numbers .entry)))) (now (line .exit)) r ⌝ }
 {
     let answer = text::answer(scan, numbers, line);
-    let n = answer.length;
-    system::write_all(STDOUT_FILENO, &line[..n])
+    system::write_first(STDOUT_FILENO, line, answer.length)
 }
 
 // A text that can't be taken, as one is whose reading failed.
@@ -82,7 +81,7 @@ fn failed() -> Scan
 fn answer(scan: Scan, numbers: &mut [u16])
     requires { ⌜ Sane scan (now numbers) ⌝ }
 {
-    let mut line = [0u8; 640];
+    let mut line = [0u8; line::LINE];
     let sent = print(scan, numbers, &mut line);
     if !sent.whole {
         system::say_unwritten(sent.error, 0);
@@ -90,7 +89,7 @@ fn answer(scan: Scan, numbers: &mut [u16])
 }
 
 fn run() {
-    let mut numbers = [0u16; 834];
+    let mut numbers = [0u16; text::NUMBERS];
     let mut buffer = [0u8; 65536];
     let turn = take_all(&mut buffer, &mut numbers);
     match turn {

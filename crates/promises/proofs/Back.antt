@@ -1,6 +1,6 @@
--- What was sent comes back from the nibbles of its frame: the payload, the checksum and the header.
+-- What was sent comes back from the nibbles of its frame: the payload and the checksum.
 -- Assumes nothing.
-use mathlib.Core.Path.{_≡_, refl, sym, ap, _∙_}
+use mathlib.Core.Path.{_≡_, refl, _∙_}
 use mathlib.Core.Bool.{Bool, true}
 use mathlib.Core.List.{List}
 use Prim.Native.Nat.{ℕ, _+_, _-_, _*_, _/_, _%_, _<_, _≤_}
@@ -9,15 +9,11 @@ use native.Mathlib.Omega.{arith}
 use borrow.Author.Tests.{lt-ltb, le-ltb, eq-eqb, ne-eqb}
 use lib.Bits.{bitXor}
 use lib.ListN.{length, getD}
-use lib.Seq.{ext-getD}
 use Rattle.bits.specs.Tab.{tab}
 use Rattle.bits.proofs.Xor.{xor-twice}
-use Rattle.bits.proofs.Tabs.{length-tab, getD-tab, tab-cong, tab-getD}
+use Rattle.bits.proofs.Tabs.{tab-cong, tab-getD}
 use Rattle.checksum.specs.Checksum.{checksum}
 use Rattle.coding.specs.Nibbles.{dataByte, halfOf, dataNibble, bodyNibble, nibbleWith, frameNibble}
-use Rattle.header.specs.Header.{headerNibbles, verdictOf}
-use Rattle.header.specs.declared.Verdict.the-variants.{Says}
-use Rattle.header.proofs.HeaderLaws.{length-header, verdict-header}
 use Rattle.layout.specs.Layout.{dataNibbles}
 use Rattle.reading.specs.Payload.{byteOfNibbles, payloadByte, sentChecksum}
 use Rattle.whitening.specs.Whitening.{whitening}
@@ -113,13 +109,3 @@ module _ (header payload : List ℕ) (flag : Bool) (nib : ℕ → ℕ)
   checksum-back e =
       let all : 2 * length payload + 4 ≤ dataNibbles (length payload) flag = rw e (checksum-within (length payload)) in
       rw (byte-back (length payload) (omega arith), byte-back (length payload + 1) (omega arith), sum-low, sum-high) (omega arith)
-
--- the header comes back from the first five nibbles
-pub header-back : (len cr : ℕ) (payload : List ℕ) (flag : Bool) (nib : ℕ → ℕ) → len < 256 → 1 ≤ cr → cr ≤ 4
-    → ((i : ℕ) → i < 5 → nib i ≡ frameNibble (headerNibbles len cr flag) payload flag i) → verdictOf (tab 5 nib) ≡ Says len cr flag
-header-back len cr payload flag nib h low high agree = ap verdictOf same ∙ verdict-header len cr flag h low high
-  where
-    same : tab 5 nib ≡ headerNibbles len cr flag
-    same = ext-getD 0 _ _ (length-tab 5 nib ∙ sym (length-header len cr flag))
-        (λ i l. let few : i < 5 = rw length-tab at l in
-        getD-tab 5 nib i 0 few ∙ agree i few ∙ frame-in-header (headerNibbles len cr flag) payload flag i (rw length-header few))

@@ -2,8 +2,12 @@ pub mod Near
 pub mod Back
 pub mod Outcome
 pub mod Answers
-pub mod Demand3
+pub mod Codewords
+pub mod Unchanged
+pub mod Demand1
 pub mod Demand2
+pub mod Demand3
 pub mod Determined
+pub mod Exported
 pub mod Small
 pub mod Examples

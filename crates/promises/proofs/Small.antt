@@ -3,27 +3,35 @@
 use mathlib.Core.Path.{_≡_, refl, sym}
 use mathlib.Core.Bool.{Bool, true, false}
 use mathlib.Core.List.{List}
-use Prim.Native.Nat.{ℕ, _-_, _*_, _/_, _≤_}
+use Prim.Native.Nat.{ℕ, _*_, _/_, _^_, _≤_, _<_}
 use native.Mathlib.Nat.{div-add-mod'}
 use native.Mathlib.Omega.{arith}
 use lib.Dec.{leb}
-use lib.ListN.{length}
-use Rattle.bits.specs.Pick.{check}
-use Rattle.layout.specs.Layout.{validSf, validCr, rowsOfFirst, rowsOfLater, dataNibbles, remaining, laterBlocks, symbolCount}
+use lib.ListN.{length, getD}
+use Rattle.bits.specs.Check.{check}
+use Rattle.layout.specs.Layout.{validSf, validCr, rowsOfFirst, rowsOfLater, dataNibbles, nibblesOf, remaining, laterBlocks, symbolCount, symbolsOf}
+use Rattle.layout.proofs.LayoutLaws.{symbols-le}
 use Rattle.lora.specs.Airtime.{validBandwidth, dividend, microseconds, lasting, airtimeOf}
 use Rattle.lora.specs.Code.{fitting, codeOf, Coding}
-use Rattle.lora.specs.Count.{nibblesOf, symbolsOf, countOf}
+use Rattle.lora.specs.Count.{frameOf, countOf}
 use Rattle.lora.specs.Head.{headOf}
 use Rattle.lora.specs.Read.{readOf}
+use Rattle.lora.specs.declared.Accepted.{Accepted}
 use Rattle.lora.specs.declared.Settings.{Settings}
 use Rattle.lora.specs.declared.Counted.{Counted}
 use Rattle.lora.specs.declared.Counted.the-variants.{Symbols, Refused as CountRefused}
 use Rattle.lora.specs.declared.Lasting.the-variants.{Microseconds, Refused as TimeRefused}
 use Rattle.lora.specs.declared.Heading.the-variants.{Says, Refused as HeadRefused}
 use Rattle.lora.specs.declared.Received.the-variants.{Payload, Refused}
-use Rattle.lora.proofs.AnswerLaws.{accepted}
-use Rattle.lora.proofs.CountLaws.{counted, symbols-le}
+use Rattle.lora.proofs.AnswerLaws.{accepts}
+use Rattle.lora.proofs.CountLaws.{counted}
 use Rattle.lora.proofs.TimeLaws.{whole}
+use Rattle.promises.proofs.Unchanged.{below-limit}
+
+-- what code writes is below 2^SF
+pub code-below : {s : Settings} {payload old sent : List ℕ} {count : ℕ} → Coding s payload old sent (Symbols count) → (t : ℕ) → t < count
+    → getD sent t 0 < 2 ^ (s .sf)
+code-below c = below-limit c
 
 -- the count that code answers is what count answers
 pub code-counts : (s : Settings) (payload old new : List ℕ) (count : ℕ) → Coding s payload old new (Symbols count) → countOf s (length payload) ≡ Symbols count
@@ -42,19 +50,19 @@ code-counts s payload old new count c = one (countOf s (length payload)) (sym (c
 pub count-most : (s : Settings) (len count : ℕ) → countOf s len ≡ Symbols count → count ≤ 832
 count-most s len count e =
     let k = counted s len count e in
-    rw (k .is) (symbols-le s len (k .settings) (k .short))
+    rw (k .is) (symbols-le (frameOf s) len (k .settings) (k .short))
 
-pub largest : countOf (record { sf = 7; low = true; cr = 4; checksum = true }) 255 ≡ Symbols 832
+pub largest : countOf (record { sf = 7; low = true; cr = 4; checked = true }) 255 ≡ Symbols 832
 unfolding countOf validSf validCr symbolsOf nibblesOf dataNibbles symbolCount laterBlocks remaining rowsOfFirst rowsOfLater
 largest = refl
 
 -- airtime divides without remainder: the time answered, times the bandwidth, is the dividend
-pub airtime-whole : (s : Settings) (len khz n time : ℕ) → airtimeOf s len khz n ≡ Microseconds time → time * khz ≡ dividend (s .sf) n (symbolsOf s len)
+pub airtime-whole : (s : Settings) (len khz n time : ℕ) → airtimeOf s len khz n ≡ Microseconds time → time * khz ≡ dividend (s .sf) n (symbolsOf (frameOf s) len)
 unfolding airtimeOf microseconds
 airtime-whole s len khz n time e = one (countOf s len) refl e
   where
     two : (count : ℕ) → countOf s len ≡ Symbols count → (t : Bool) → validBandwidth khz ≡ t
-        → check t (TimeRefused 13 0) (Microseconds (dividend (s .sf) n count / khz)) ≡ Microseconds time → time * khz ≡ dividend (s .sf) n (symbolsOf s len)
+        → check t (TimeRefused 13 0) (Microseconds (dividend (s .sf) n count / khz)) ≡ Microseconds time → time * khz ≡ dividend (s .sf) n (symbolsOf (frameOf s) len)
     two count f false g h = absurd (let z : _≡_ {A = ℕ} 0 1 = cc in omega arith)
     two count f true g h =
         let k = counted s len count f in
@@ -62,14 +70,14 @@ airtime-whole s len khz n time e = one (countOf s len) refl e
         let exact = whole (s .sf) n count khz (k .settings .sf-low) g in
         rw (← same, ← k .is) (omega (arith, div-add-mod' (dividend (s .sf) n count) khz, exact))
 
-    one : (r : Counted) → countOf s len ≡ r → lasting r s khz n ≡ Microseconds time → time * khz ≡ dividend (s .sf) n (symbolsOf s len)
+    one : (r : Counted) → countOf s len ≡ r → lasting r s khz n ≡ Microseconds time → time * khz ≡ dividend (s .sf) n (symbolsOf (frameOf s) len)
     one (CountRefused a b) f g = absurd (let z : _≡_ {A = ℕ} 0 1 = cc in omega arith)
     one (Symbols count) f g = two count f (validBandwidth khz) refl g
 
 -- head says what read says
-pub head-agrees : (sf : ℕ) (low : Bool) (symbols : List ℕ) (room len cr : ℕ) (flag : Bool) (total repairs : ℕ)
-    → readOf sf low symbols room ≡ Payload len cr flag total repairs → headOf sf symbols ≡ Says len cr flag
-head-agrees sf low symbols room len cr flag total repairs e = accepted sf low symbols room len cr flag total repairs e .head
+pub head-agrees : (sf : ℕ) (low : Bool) (symbols : List ℕ) (room : ℕ) (a : Accepted) → readOf sf low symbols room ≡ Payload a
+    → headOf sf symbols ≡ Says (record { length = a .length; cr = a .cr; checked = a .checked })
+head-agrees sf low symbols room a e = accepts sf low symbols room a e .head
 
 -- and where head refuses, read refuses likewise
 pub head-refuses : (sf : ℕ) (low : Bool) (symbols : List ℕ) (room number place : ℕ) → headOf sf symbols ≡ HeadRefused number place → readOf sf low symbols room ≡ Refused number place

@@ -1,2 +1,3 @@
-pub mod Heard
+pub mod Found
 pub mod Payload
+pub mod Stages

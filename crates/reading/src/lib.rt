@@ -1,15 +1,21 @@
 // From received symbols to a frame's nibbles, block by block, and from nibbles to the payload.
 ghost use mathlib.Core.Path.{_≡_};
-ghost use Prim.Native.Nat.{ℕ, _+_, _*_, _^_, _≤_, _<_};
+ghost use Prim.Native.Nat.{ℕ, _+_, _≤_, _<_, min};
 ghost use lib.ListN.{length, getD};
-ghost use lib.Dec.{ltb};
-ghost use Rattle.bits.specs.Pick.{pick};
 ghost use Rattle.bits.specs.Tab.{over, blank};
-ghost use Rattle.codeword.specs.Codeword.{Rate};
-ghost use Rattle.layout.specs.Layout.{Valid, Fits, symbolCount};
-ghost use Rattle.reading.specs.Heard.{symbolWord, gridInBlock, readRow, heardAt, Walk};
-ghost use Rattle.reading.specs.Payload.{listed, payloadByte, byteOfNibbles, sentChecksum};
+ghost use Rattle.codeword.specs.Ranges.{Rate};
+ghost use Rattle.codeword.specs.Readings.{readingTable};
+ghost use Rattle.layout.specs.Layout.{rowsOfFirst, firstBlock, remaining, symbolCount};
+ghost use Rattle.layout.specs.Ranges.{Valid, Fits};
+ghost use Rattle.reading.specs.Found.{dataFound};
+ghost use Rattle.reading.specs.Payload.{byteOfNibbles, payloadByte, sentChecksum};
+ghost use Rattle.reading.specs.Stages.{symbolWord, gridOfSymbols, rowsFrom, laterFound, Walk, listed};
 use layout::Block;
+use layout::Frame;
+use layout::LONGEST;
+
+// The most nibbles that a frame has.
+pub const NIBBLES: usize = 519;
 
 // How far a run of codewords was read, and the repairs on the way.
 pub struct Progress {
@@ -19,18 +25,18 @@ pub struct Progress {
 
 // The smaller of the two.
 fn least(a: usize, b: usize) -> usize
-    ensures { λ r. ⌜ r ≡ pick (ltb a b) a b ⌝ }
+    ensures { λ r. ⌜ r ≡ min a b ⌝ }
 {
     if a < b { a } else { b }
 }
 
 // The symbol words received in a block's columns.
 fn words_of_block(b: Block, symbols: &[u16]) -> [u16; 8]
-    requires { ⌜ Fits b × (b .first + (4 + b .rate) ≤ length (now symbols)) ⌝ }
+    requires { ⌜ Fits b × (b .symbol + (4 + b .rate) ≤ length (now symbols)) ⌝ }
     ensures { λ r. ⌜ r ≡ over (4 + b .rate) (symbolWord b (now (symbols .entry))) (blank 8 0) ⌝ }
 {
-    let wide = b.wide;
-    let first = b.first;
+    let wide = b.spaced;
+    let first = b.symbol;
     let columns = 4 + bits::wide(b.rate);
     let mut words = [0u16; 8];
     for j in 0..columns {
@@ -41,88 +47,139 @@ fn words_of_block(b: Block, symbols: &[u16]) -> [u16; 8]
 
 // The grid of a block.
 fn grid_of_block(b: Block, symbols: &[u16]) -> [[bool; 8]; 12]
-    requires { ⌜ Fits b × (b .first + (4 + b .rate) ≤ length (now symbols)) ⌝ }
-    ensures { λ r. ⌜ r ≡ gridInBlock b (now (symbols .entry)) ⌝ }
+    requires { ⌜ Fits b × (b .symbol + (4 + b .rate) ≤ length (now symbols)) ⌝ }
+    ensures { λ r. ⌜ r ≡ gridOfSymbols b (now (symbols .entry)) ⌝ }
 {
-    let columns = 4 + bits::wide(b.rate);
-    block::grid_of_words(b.rows, columns, words_of_block(b, symbols))
+    block::grid_of_words(b.rows, words_of_block(b, symbols))
 }
 
-// Reads n codewords of a grid into the nibbles from the place at on, up to the first that can't be read.
-fn read_rows(rate: u8, g: [[bool; 8]; 12], n: usize, at: usize, nibbles: &mut [u8; 519]) -> Progress
-    requires { ⌜ Rate rate × (n ≤ 12) × (at + n ≤ 519) × (length (now nibbles) ≡ 519) ⌝ }
-    ensures { λ r. ⌜ Walk (readRow rate g) n at (now (nibbles .entry)) (now (nibbles .exit)) (r .end) (r .repairs) ⌝ }
+// The grid of block 0.
+pub fn first_grid(sf: u8, symbols: &[u16]) -> [[bool; 8]; 12]
+    requires { ⌜ (7 ≤ sf) × (sf ≤ 12) × (8 ≤ length (now symbols)) ⌝ }
+    ensures { λ r. ⌜ r ≡ gridOfSymbols (firstBlock sf) (now (symbols .entry)) ⌝ }
+{
+    grid_of_block(layout::first_block(sf), symbols)
+}
+
+// Reads n codewords of a block's grid, from its row `from` on, into the nibbles from the place at on, up to the first that
+// can't be read.
+pub fn read_rows(
+    readings: &[[u8; 8]; 60],
+    rate: u8,
+    g: &[[bool; 8]; 12],
+    from: usize,
+    n: usize,
+    at: usize,
+    nibbles: &mut [u8; NIBBLES],
+) -> Progress
+    requires { ⌜ (now readings ≡ readingTable) × Rate rate × (from + n ≤ 12) × (at + n ≤ 519) × (length (now nibbles) ≡ 519) ⌝ }
+    ensures { λ r. ⌜ Walk (rowsFrom rate (now (g .entry)) from) n at (now (nibbles .entry)) (now (nibbles .exit)) (r .end) (r .repairs) ⌝ }
 {
     let columns = 4 + bits::wide(rate);
     let mut repairs = 0;
     for i in 0..n {
-        let h = codeword::read_word(rate, block::codeword_of_grid(columns, &g, i));
-        if codeword::unreadable(h) {
+        let word = block::codeword_of_grid(columns, g, from + i);
+        let found = codeword::read_word(readings, rate, word);
+        if codeword::unreadable(found) {
             return Progress { end: i, repairs };
         }
-        nibbles[at + i] = codeword::nibble(h);
-        repairs += codeword::repaired(h) as usize;
+        nibbles[at + i] = codeword::nibble(found);
+        repairs += codeword::repaired(found) as usize;
     }
     Progress { end: n, repairs }
 }
 
-// Reads the first n codewords of a frame, up to the first that can't be read.
-pub fn read_frame(
-    sf: u8,
-    low: bool,
-    cr: u8,
+// Reads the codewords behind block 0, in a frame of n codewords, up to the first that can't be read.
+fn read_later(
+    readings: &[[u8; 8]; 60],
+    f: Frame,
     symbols: &[u16],
     n: usize,
-    nibbles: &mut [u8; 519],
+    nibbles: &mut [u8; NIBBLES],
 ) -> Progress
-    requires { ⌜ Valid sf cr × (1 ≤ n) × (n ≤ 519) × (symbolCount sf low cr n ≤ length (now symbols)) × (length (now nibbles) ≡ 519) ⌝ }
-    ensures { λ r. ⌜ Walk (heardAt sf low cr (now (symbols .entry))) n 0 (now (nibbles .entry)) (now (nibbles .exit)) (r .end) (r .repairs) ⌝ }
+    requires { ⌜ (now readings ≡ readingTable) × Valid f × (rowsOfFirst (f .sf) ≤ n) × (n ≤ 519) × (symbolCount f n ≤ length (now symbols)) × (length (now nibbles) ≡ 519) ⌝ }
+    ensures { λ r. ⌜ Walk (laterFound f (now (symbols .entry))) (remaining f n) (rowsOfFirst (f .sf)) (now (nibbles .entry)) (now (nibbles .exit)) (r .end) (r .repairs) ⌝ }
 {
-    let blocks = layout::later_blocks(sf, low, n) + 1;
+    let start = layout::first_block(f.sf).rows;
+    let blocks = layout::later_blocks(f, n) + 1;
     let mut repairs = 0;
-    for k in 0..blocks {
-        let b = layout::block_at(sf, low, cr, k);
-        let base = b.base;
-        let rows = least(b.rows, n - base);
-        let p = read_rows(b.rate, grid_of_block(b, symbols), rows, base, nibbles);
+    for k in 1..blocks {
+        let b = layout::block_at(f, k);
+        let at = b.codeword;
+        let rows = least(b.rows, n - at);
+        let g = grid_of_block(b, symbols);
+        let p = read_rows(readings, b.rate, &g, 0, rows, at, nibbles);
         repairs += p.repairs;
         if p.end < rows {
             return Progress {
-                end: base + p.end,
+                end: at - start + p.end,
                 repairs,
             };
         }
     }
-    Progress { end: n, repairs }
+    Progress {
+        end: n - start,
+        repairs,
+    }
 }
 
-// Byte p of the data behind a header of five nibbles.
-fn byte_of_nibbles(nibbles: &[u8; 519], p: usize) -> u8
-    requires { ⌜ (p ≤ 256) × ((i : ℕ) → getD (now nibbles) i 0 < 16) ⌝ }
-    ensures { λ r. ⌜ r ≡ byteOfNibbles 5 (listed (now (nibbles .entry))) p ⌝ }
+// Reads the n data codewords of a frame, those behind its header, up to the first that can't be read; `first` is the grid of
+// block 0.
+pub fn read_data(
+    readings: &[[u8; 8]; 60],
+    f: Frame,
+    first: &[[bool; 8]; 12],
+    symbols: &[u16],
+    n: usize,
+    nibbles: &mut [u8; NIBBLES],
+) -> Progress
+    requires { ⌜ (now readings ≡ readingTable) × Valid f × (now first ≡ gridOfSymbols (firstBlock (f .sf)) (now symbols)) × (f .header + n ≤ 519) × (symbolCount f (f .header + n) ≤ length (now symbols)) × (length (now nibbles) ≡ 519) ⌝ }
+    ensures { λ r. ⌜ Walk (dataFound f (now (symbols .entry))) n (f .header) (now (nibbles .entry)) (now (nibbles .exit)) (r .end) (r .repairs) ⌝ }
 {
-    let low = nibbles[5 + 2 * p];
-    let high = nibbles[5 + 2 * p + 1];
+    let header = f.header;
+    let b = layout::first_block(f.sf);
+    let inside = b.rows - header;
+    let rows = least(inside, n);
+    let p = read_rows(readings, b.rate, first, header, rows, header, nibbles);
+    if p.end < inside {
+        return p;
+    }
+    let rest = read_later(readings, f, symbols, header + n, nibbles);
+    Progress {
+        end: inside + rest.end,
+        repairs: p.repairs + rest.repairs,
+    }
+}
+
+// Byte p of the data behind a header of so many nibbles.
+fn byte_of_nibbles(nibbles: &[u8; NIBBLES], header: usize, p: usize) -> u8
+    requires { ⌜ (header ≤ 5) × (p ≤ 256) × ((i : ℕ) → getD (now nibbles) i 0 < 16) ⌝ }
+    ensures { λ r. ⌜ r ≡ byteOfNibbles header (listed (now (nibbles .entry))) p ⌝ }
+{
+    let low = nibbles[header + 2 * p];
+    let high = nibbles[header + 2 * p + 1];
     low + 16 * high
 }
 
-pub fn payload_of_nibbles(nibbles: &[u8; 519], len: usize) -> [u8; 255]
-    requires { ⌜ (len ≤ 255) × ((i : ℕ) → getD (now nibbles) i 0 < 16) ⌝ }
-    ensures { λ r. ⌜ r ≡ over len (payloadByte 5 (listed (now (nibbles .entry)))) (blank 255 0) ⌝ }
+// The first len bytes of the payload behind such a header.
+pub fn payload_of_nibbles(nibbles: &[u8; NIBBLES], header: usize, len: usize) -> [u8; LONGEST]
+    requires { ⌜ (header ≤ 5) × (len ≤ 255) × ((i : ℕ) → getD (now nibbles) i 0 < 16) ⌝ }
+    ensures { λ r. ⌜ r ≡ over len (payloadByte header (listed (now (nibbles .entry)))) (blank 255 0) ⌝ }
 {
-    let table = whitening::table();
-    let mut payload = [0u8; 255];
+    let mut payload = [0u8; LONGEST];
     for p in 0..len {
-        payload[p] = byte_of_nibbles(nibbles, p) ^ table[p];
+        payload[p] = byte_of_nibbles(nibbles, header, p);
     }
+    whitening::whiten(&mut payload, len);
     payload
 }
 
-pub fn checksum_of_nibbles(nibbles: &[u8; 519], len: usize) -> u16
-    requires { ⌜ (len ≤ 255) × ((i : ℕ) → getD (now nibbles) i 0 < 16) ⌝ }
-    ensures { λ r. ⌜ r ≡ sentChecksum 5 (listed (now (nibbles .entry))) len ⌝ }
+// The checksum sent behind a payload of len bytes.
+pub fn checksum_of_nibbles(nibbles: &[u8; NIBBLES], header: usize, len: usize) -> u16
+    requires { ⌜ (header ≤ 5) × (len ≤ 255) × ((i : ℕ) → getD (now nibbles) i 0 < 16) ⌝ }
+    ensures { λ r. ⌜ r ≡ sentChecksum header (listed (now (nibbles .entry))) len ⌝ }
 {
-    let low = byte_of_nibbles(nibbles, len);
-    let high = byte_of_nibbles(nibbles, len + 1);
+    let low = byte_of_nibbles(nibbles, header, len);
+    let high = byte_of_nibbles(nibbles, header, len + 1);
     (low as u16) + 256 * (high as u16)
 }

@@ -1,6 +1,6 @@
 -- What the system's calls handed over.
 -- Assumes nothing.
-use mathlib.Core.List.{List, []}
+use mathlib.Core.List.{List}
 use mathlib.Core.Path.{_≡_}
 use Prim.Native.Nat.{ℕ, _≤_}
 use lib.Dec.{eqb}
@@ -9,19 +9,18 @@ use Rattle.system.specs.declared.Got.{Got}
 use Rattle.system.specs.declared.Got.the-variants.{Bytes, End, Failed}
 use Rattle.system.specs.declared.Sent.{Sent}
 
--- the bytes that a read left at the front of its buffer
-abbrev pub chunkOf : Got → List ℕ → List ℕ
-chunkOf (Bytes n) buffer = take n buffer
-chunkOf End buffer = []
-chunkOf (Failed error) buffer = []
-
--- they lie within it
+-- the bytes that a read left at the front of its buffer lie within it
 abbrev pub Within : Got → List ℕ → Type 0
 Within (Bytes n) buffer = n ≤ length buffer
 Within End buffer = Unit
 Within (Failed error) buffer = Unit
 
--- the waiting bytes were handed to the system: it took so many, and it took all of them or the write is not whole
-pub record Handed (waiting : ℕ) (sent : Sent) : Type 0 where
-  pub some : sent .bytes ≤ waiting
-  pub all : sent .whole ≡ eqb (sent .bytes) waiting
+-- of so many bytes the system took some, and the write is whole if and only if it took all; which bytes, nothing here says
+pub record Handed (count : ℕ) (sent : Sent) : Type 0 where
+  pub some : sent .bytes ≤ count
+  pub all : sent .whole ≡ eqb (sent .bytes) count
+
+-- a line stands at the front of a buffer, and a write was to hand over as many bytes as it has
+pub record Printing (line buffer : List ℕ) (sent : Sent) : Type 0 where
+  pub is : take (length line) buffer ≡ line
+  pub handed : Handed (length line) sent

@@ -3,6 +3,8 @@
 ghost use Prim.Native.Nat.{_≤_};
 ghost use lib.ListN.{length};
 ghost use Rattle.system.specs.Calls.{Within, Handed};
+use libc::EAGAIN;
+use libc::EINTR;
 use libc::STDERR_FILENO;
 use libc::STDIN_FILENO;
 
@@ -29,7 +31,7 @@ pub enum Asked {
 }
 
 // Waits a thousandth of a second, or less where a signal ends the wait.
-pub fn pause() {
+fn pause() {
     let asked = libc::types::timespec {
         tv_sec: 0,
         tv_nsec: 1000000,
@@ -54,7 +56,7 @@ fn failure(got: isize) -> usize {
 
 // Whether the call before is to be tried again: it would have waited, or a signal interrupted it.
 fn again(number: usize) -> bool {
-    number == 11 || number == 4
+    number == EAGAIN as usize || number == EINTR as usize
 }
 
 // Reads what is there, and waits until there is something. A proved loop has to end, so it counts its tries down from a
@@ -150,6 +152,14 @@ pub fn write_all(fd: i32, bytes: &[u8]) -> Sent
     }
 }
 
+// Writes the first n bytes of a buffer.
+pub fn write_first(fd: i32, buffer: &[u8], n: usize) -> Sent
+    requires { ⌜ n ≤ length (now buffer) ⌝ }
+    ensures { λ r. ⌜ Handed n r ⌝ }
+{
+    write_all(fd, &buffer[..n])
+}
+
 // Words for whoever started the program.
 pub fn say(words: &[u8]) {
     write_all(STDERR_FILENO, words);
@@ -183,13 +193,6 @@ fn put_number(line: &mut [u8], at: usize, n: usize) -> usize
     put(line, at, &digits[..k])
 }
 
-// The first n bytes of a line.
-fn say_first(line: &[u8], n: usize)
-    requires { ⌜ n ≤ length (now line) ⌝ }
-{
-    say(&line[..n]);
-}
-
 // The line for a write that failed: the whole answers before it were written. A line goes out in one write, so that it stays
 // whole where programs share a standard error.
 pub fn say_unwritten(error: usize, answers: usize) {
@@ -199,7 +202,7 @@ pub fn say_unwritten(error: usize, answers: usize) {
     n = put(&mut line, n, b"), ");
     n = put_number(&mut line, n, answers);
     n = put(&mut line, n, b" whole answers written\n");
-    say_first(&line, n);
+    write_first(STDERR_FILENO, &line, n);
 }
 
 // The line for a read that failed, where one text is all the input.
@@ -208,7 +211,7 @@ pub fn say_failed(error: usize) {
     let mut n = put(&mut line, 0, b"reading failed (error ");
     n = put_number(&mut line, n, error);
     n = put(&mut line, n, b")\n");
-    say_first(&line, n);
+    write_first(STDERR_FILENO, &line, n);
 }
 
 // The line for a read that failed: the line that it cut short has no answer.
@@ -221,7 +224,7 @@ pub fn say_unread(error: usize, answers: usize) {
     n = put(&mut line, n, b"), ");
     n = put_number(&mut line, n, answers);
     n = put(&mut line, n, b" whole answers written\n");
-    say_first(&line, n);
+    write_first(STDERR_FILENO, &line, n);
 }
 
 // The line behind so many.

@@ -1,20 +1,21 @@
 -- The struct and the list of numbers hold the state that a text taken byte by byte has.
 -- Assumes nothing.
-use mathlib.Core.Path.{_≡_, refl, sym, _∙_}
-use mathlib.Core.Bool.{Bool, true, false, not}
-use mathlib.Core.List.{List, [], _∷_, _++_}
+use mathlib.Core.Path.{_≡_, refl, _∙_}
+use mathlib.Core.Bool.{Bool, true, false, not, _&&_, cond, and-false, or-true}
+use mathlib.Core.List.{List, [], _++_}
 use Prim.Native.Nat.{ℕ, _+_, _-_, _*_, _<_, _≤_}
 use native.Mathlib.Numerals.{add-one}
 use native.Mathlib.Omega.{arith}
 use borrow.Author.Tests.{lt-ltb, le-ltb, le-leb, lt-leb, eq-eqb, ne-eqb, leb-true}
 use lib.Dec.{leb, ltb, eqb}
 use lib.ListN.{length, take, drop, getD, set, length-set}
-use lib.Seq.{length-take-le, take-suc-set, take-suc, take-all, getD-take}
+use lib.Seq.{length-take-le, take-suc-set, getD-take}
 use Rattle.bits.specs.Bit.{isSet}
-use Rattle.bits.specs.Pick.{pick, both, either, check}
-use Rattle.text.specs.Text.{isSeparator, isDigit, Text, bad, frame, frameOf, textOf}
+use Rattle.bits.specs.Check.{check}
+use Rattle.bits.proofs.Truth.{check-cond}
+use Rattle.text.specs.Text.{isSeparator, isDigit, bad, frame, frameOf}
 use Rattle.text.specs.Scan.{State, start, refuse, shut, grown, step, run, ended, taken, stateOf, refusing, Sane, Holds, isFrame}
-use Rattle.text.proofs.TextLaws.{step-refused, step-shuts, step-grows, step-refuses, run-append, scanned}
+use Rattle.text.proofs.TextLaws.{step-refused, step-shuts, step-grows, step-refuses, run-append}
 use Rattle.text.specs.declared.Scan.{Scan}
 
 module _ {c : Scan} {numbers : List ℕ} where
@@ -60,34 +61,26 @@ module _ {c : Scan} {numbers : List ℕ} where
         is = rw (lt-ltb (c .digits) 5 h, le-leb (c .value * 10 + (b - 48)) 65535 l);
       }
 
-  grown-refuses : (b : ℕ) → Sane c numbers → both (ltb (c .digits) 5) (leb (c .value * 10 + (b - 48)) 65535) ≡ false → refuse (stateOf c numbers) ≡ grown (stateOf c numbers) b
+  grown-refuses : (b : ℕ) → Sane c numbers → ltb (c .digits) 5 && leb (c .value * 10 + (b - 48)) 65535 ≡ false → refuse (stateOf c numbers) ≡ grown (stateOf c numbers) b
   unfolding stateOf grown
   grown-refuses b p e = rw e
 
-  pub grown-not : (b : ℕ) → Sane c numbers → both (ltb (c .digits) 5) (leb (c .value * 10 + (b - 48)) 65535) ≡ false
+  pub grown-not : (b : ℕ) → Sane c numbers → ltb (c .digits) 5 && leb (c .value * 10 + (b - 48)) 65535 ≡ false
       → Holds (grown (stateOf c numbers) b) (refusing c) numbers
   grown-not b p e = rw (← grown-refuses b p e) (holds-refused p)
 
-both-none : (t : Bool) → both t false ≡ false
-both-none true = refl
-both-none false = refl
-
-either-one : (t : Bool) → either t true ≡ true
-either-one true = refl
-either-one false = refl
-
 -- the code's tests, one after the other, as one
-pub many-digits : (d v : ℕ) → 5 ≤ d → both (ltb d 5) (leb v 65535) ≡ false
+pub many-digits : (d v : ℕ) → 5 ≤ d → ltb d 5 && leb v 65535 ≡ false
 many-digits d v h = rw (le-ltb d 5 h)
 
-pub large-value : (d v : ℕ) → leb v 65535 ≡ false → both (ltb d 5) (leb v 65535) ≡ false
-large-value d v e = rw e (both-none (ltb d 5))
+pub large-value : (d v : ℕ) → leb v 65535 ≡ false → ltb d 5 && leb v 65535 ≡ false
+large-value d v e = rw e (and-false (ltb d 5))
 
 pub is-space : (b : ℕ) → b ≡ 32 → isSeparator b ≡ true
 is-space b e = rw (eq-eqb b 32 e)
 
 pub is-line-end : (b : ℕ) → eqb b 10 ≡ true → isSeparator b ≡ true
-is-line-end b e = rw e (either-one (eqb b 32))
+is-line-end b e = rw e (or-true (eqb b 32))
 
 pub no-separator : (b : ℕ) → (b ≡ 32 → ⊥) → eqb b 10 ≡ false → isSeparator b ≡ false
 no-separator b n e = rw (ne-eqb b 32 n, e)
@@ -99,7 +92,7 @@ pub below-digits : (b : ℕ) → b < 48 → isDigit b ≡ false
 below-digits b h = rw (lt-leb 48 b h)
 
 pub above-digits : (b : ℕ) → leb b 57 ≡ false → isDigit b ≡ false
-above-digits b e = rw e (both-none (leb 48 b))
+above-digits b e = rw e (and-false (leb 48 b))
 
 -- whether it is a frame: too few numbers, the second decides
 pub frame-few : (c : Scan) (numbers : List ℕ) → c .refused ≡ false → c .count < 2 → false ≡ isFrame c numbers
@@ -143,23 +136,6 @@ module _ {d : Scan} {later : List ℕ} (c : Scan) (numbers : List ℕ) where
       → Holds (step (stateOf c numbers) b) d later
   byte-refuses b e q t h = rw (step-refuses (stateOf c numbers) b (refused-is c numbers ∙ e) q t) h
 
-run-more : (s : State) (piece : List ℕ) (i : ℕ) → i < length piece → step (run s (take i piece)) (getD piece i 0) ≡ run s (take (i + 1) piece)
-unfolding run
-run-more s piece i h = rw (add-one i, take-suc piece i 0 h) (run-append s (take i piece) (getD piece i 0 ∷ []))
-
--- a piece that is taken up to i: nothing yet, a byte more, all of it
-pub fed-none : {c : Scan} {numbers : List ℕ} (piece : List ℕ) → Sane c numbers → Holds (run (stateOf c numbers) (take 0 piece)) c numbers
-unfolding run
-fed-none piece p = holds-here p
-
-pub fed-more : {c d : Scan} {numbers later : List ℕ} (s : State) (piece : List ℕ) (i : ℕ) → i < length piece → Holds (run s (take i piece)) c numbers
-    → Holds (step (stateOf c numbers) (getD piece i 0)) d later → Holds (run s (take (i + 1) piece)) d later
-fed-more s piece i h p q = rw (← run-more s piece i h, ← p .is) q
-
-pub fed-all : {c : Scan} {numbers : List ℕ} (s : State) (piece : List ℕ) (i : ℕ) → length piece ≤ i → Holds (run s (take i piece)) c numbers
-    → Holds (run s piece) c numbers
-fed-all s piece i h p = rw (take-all i piece h) at p
-
 -- a struct of the beginning: nothing of the text is taken
 pub holds-start : (c : Scan) (numbers : List ℕ) → c .refused ≡ false → c .digits ≡ 0 → c .value ≡ 0 → c .count ≡ 0 → length numbers ≡ 834 → Holds (run start []) c numbers
 unfolding stateOf start run
@@ -176,26 +152,17 @@ holds-piece bytes piece p q = rw (← run-append start bytes piece, ← p .is) q
 
 -- what a text that has ended is, by the struct and the list
 pub frame-is : {c : Scan} {numbers : List ℕ} (s : State) → Holds (ended s) c numbers
-    → taken s ≡ pick (isFrame c numbers) (frame (getD numbers 0 0) (isSet (getD numbers 1 0)) (drop 2 (take (c .count) numbers))) bad
+    → taken s ≡ cond (isFrame c numbers) (frame (getD numbers 0 0) (isSet (getD numbers 1 0)) (drop 2 (take (c .count) numbers))) bad
 unfolding taken stateOf frameOf
 frame-is {c} {numbers} s p =
     rw (← p .is, held (p .sane), le-leb (c .count) 834 (p .sane .placed))
     (go (c .refused) (leb 2 (c .count)) refl)
   where
-    turn : (t : Bool) (x : Text) → check t bad x ≡ pick t x bad
-    turn true x = refl
-    turn false x = refl
-
     go : (r t : Bool) → leb 2 (c .count) ≡ t
-        → pick r bad (check t bad (check (leb (getD (take (c .count) numbers) 1 0) 1) bad (frame (getD (take (c .count) numbers) 0 0) (isSet (getD (take (c .count) numbers) 1 0)) (drop 2 (take (c .count) numbers)))))
-        ≡ pick (both (not r) (both t (leb (getD numbers 1 0) 1))) (frame (getD numbers 0 0) (isSet (getD numbers 1 0)) (drop 2 (take (c .count) numbers))) bad
+        → cond r bad (check t bad (check (leb (getD (take (c .count) numbers) 1 0) 1) bad (frame (getD (take (c .count) numbers) 0 0) (isSet (getD (take (c .count) numbers) 1 0)) (drop 2 (take (c .count) numbers)))))
+        ≡ cond (not r && (t && leb (getD numbers 1 0) 1)) (frame (getD numbers 0 0) (isSet (getD numbers 1 0)) (drop 2 (take (c .count) numbers))) bad
     go true t e = refl
     go false false e = refl
     go false true e =
         let h : 2 ≤ c .count = leb-true 2 (c .count) e in
-        rw (getD-take (c .count) numbers 1 0 (omega arith), getD-take (c .count) numbers 0 0 (omega arith)) (turn (leb (getD numbers 1 0) 1) _)
-
--- the text itself, once it has ended
-pub text-is : {c d : Scan} {numbers later : List ℕ} (bytes : List ℕ) → Holds (run start bytes) c numbers → Holds (ended (stateOf c numbers)) d later
-    → textOf bytes ≡ pick (isFrame d later) (frame (getD later 0 0) (isSet (getD later 1 0)) (drop 2 (take (d .count) later))) bad
-text-is bytes p q = sym (scanned bytes) ∙ rw (← p .is) (frame-is _ q)
+        rw (getD-take (c .count) numbers 1 0 (omega arith), getD-take (c .count) numbers 0 0 (omega arith)) (check-cond (leb (getD numbers 1 0) 1) bad _)

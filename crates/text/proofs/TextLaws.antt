@@ -1,113 +1,74 @@
 -- A text taken byte by byte is the text that it is, in pieces of any size.
 -- Assumes nothing.
 use mathlib.Core.Path.{_≡_, refl, sym, ap, _∙_}
-use mathlib.Core.Bool.{Bool, true, false}
-use mathlib.Core.List.{List, [], _∷_, _++_, append-assoc, append-nil}
+use mathlib.Core.Bool.{Bool, true, false, _&&_, cond, and-true, and-false, and-assoc, and-eq-true-iff, true≢false}
+use mathlib.Core.List.{List, [], _∷_, _++_, append-assoc, append-nil, map, map-append, foldl-append}
 use mathlib.Core.Logic.{_⊎_, inl, inr, ⊎-elim}
-use Prim.Native.Nat.{ℕ, suc, _+_, _-_, _*_, _<_, _≤_}
+use Prim.Native.Nat.{ℕ, _+_, _-_, _*_, _<_, _≤_}
 use native.Mathlib.Numerals.{add-one}
 use native.Mathlib.Omega.{arith}
 use borrow.Author.Tests.{le-leb, lt-leb, eq-eqb, ne-eqb, ltb-true, ltb-false, leb-true}
 use lib.Dec.{leb, ltb}
-use lib.ListN.{length, length-append}
-use Rattle.bits.specs.Pick.{pick, both, check}
-use Rattle.text.specs.Text.{isSeparator, isDigit, closed, wordsFrom, decimalFrom, valueOf, allDigits, isNumber, allNumbers, values, Text, bad, frameOf, textOf}
+use lib.ListN.{length, length-append, length-map}
+use Rattle.bits.proofs.Lists.{length-more}
+use Rattle.bits.proofs.Truth.{refuted, check-same}
+use Rattle.text.specs.Text.{isSeparator, isDigit, closed, wordsFrom, all, withDigit, valueOf, isNumber, bad, frameOf, textOf}
 use Rattle.text.specs.Scan.{State, start, refuse, shut, grown, step, run, ended, taken}
 
--- two tests, and three
-pub both-one : (a b : Bool) → both a b ≡ true → a ≡ true
-both-one true b p = refl
-both-one false b p = p
+-- a test of each in a list, with more behind it
+module _ {A : Type 0} (p : A → Bool) where
+  all-append : (xs ys : List A) → all p (xs ++ ys) ≡ all p xs && all p ys
+  unfolding all
+  all-append [] ys = refl
+  all-append (x ∷ xs) ys = rw (all-append xs ys) (sym (and-assoc (p x) (all p xs) (all p ys)))
 
-pub both-two : (a b : Bool) → both a b ≡ true → b ≡ true
-both-two true b p = p
-both-two false b p = absurd (let z : _≡_ {A = ℕ} 0 1 = cc in omega arith)
-
-both-group : (a b c : Bool) → both a (both b c) ≡ both (both a b) c
-both-group true b c = refl
-both-group false b c = refl
+  pub all-more : (l : List A) (a : A) → all p (l ++ (a ∷ [])) ≡ all p l && p a
+  unfolding all
+  all-more l a = rw (all-append l (a ∷ []), and-true (p a))
 
 -- what makes a word a number
-pub record Number (word : List ℕ) : Type 0 where
+record Number (word : List ℕ) : Type 0 where
   few : length word ≤ 5
-  digits : allDigits word ≡ true
+  digits : all isDigit word ≡ true
   small : valueOf word ≤ 65535
 
 number-is : (word : List ℕ) → isNumber word ≡ true → Number word
 unfolding isNumber
 number-is word p =
-    let q = both-two (leb (length word) 5) _ p in
-    record { few = leb-true _ _ (both-one (leb (length word) 5) _ p); digits = both-one (allDigits word) _ q; small = leb-true _ _ (both-two (allDigits word) _ q) }
+    let (digits, rest) = and-eq-true-iff (all isDigit word) _ .0 p in
+    let (few, small) = and-eq-true-iff (leb (length word) 5) _ .0 rest in
+    record { few = leb-true _ _ few; digits = digits; small = leb-true _ _ small }
 
 is-number : (word : List ℕ) → Number word → isNumber word ≡ true
 unfolding isNumber
-is-number word n = rw (le-leb _ _ (n .few), n .digits, le-leb _ _ (n .small))
+is-number word n = rw (n .digits, le-leb _ _ (n .few), le-leb _ _ (n .small))
 
 -- one byte more at a word's end
-digits-more : (word : List ℕ) (b : ℕ) → allDigits (word ++ (b ∷ [])) ≡ both (allDigits word) (isDigit b)
-unfolding allDigits
-digits-more [] b = right (isDigit b)
-  where
-    right : (a : Bool) → both a true ≡ a
-    right true = refl
-    right false = refl
-digits-more (a ∷ word) b = rw (digits-more word b) (both-group (isDigit a) (allDigits word) (isDigit b))
-
-decimal-more : (n : ℕ) (word : List ℕ) (b : ℕ) → decimalFrom n (word ++ (b ∷ [])) ≡ decimalFrom n word * 10 + (b - 48)
-unfolding decimalFrom
-decimal-more n [] b = refl
-decimal-more n (a ∷ word) b = decimal-more (n * 10 + (a - 48)) word b
-
 value-more : (word : List ℕ) (b : ℕ) → valueOf (word ++ (b ∷ [])) ≡ valueOf word * 10 + (b - 48)
 unfolding valueOf
-value-more word b = decimal-more 0 word b
-
-pub length-more : (word : List ℕ) (b : ℕ) → length (word ++ (b ∷ [])) ≡ length word + 1
-length-more word b = length-append word (b ∷ [])
+value-more word b = foldl-append withDigit 0 word (b ∷ [])
 
 -- a number with a byte more is a number where the byte is a digit, the digits are few and the value is small
 number-more : (word : List ℕ) (b : ℕ) → Number word → isNumber (word ++ (b ∷ []))
-    ≡ both (isDigit b) (both (ltb (length word) 5) (leb (valueOf word * 10 + (b - 48)) 65535))
+    ≡ isDigit b && (ltb (length word) 5 && leb (valueOf word * 10 + (b - 48)) 65535)
 unfolding isNumber
 number-more word b n =
-    rw (digits-more word b, n .digits, value-more word b, length-more word b, same (length word))
-    (turn (ltb (length word) 5) (isDigit b) (leb (valueOf word * 10 + (b - 48)) 65535))
+    rw (all-more isDigit word b, n .digits, value-more word b, length-more word b, same (length word))
   where
     same : (k : ℕ) → leb (k + 1) 5 ≡ ltb k 5
     same k = ap (λ (m : ℕ). leb m 5) (add-one k)
 
-    turn : (x y z : Bool) → both x (both y z) ≡ both y (both x z)
-    turn true y z = refl
-    turn false true z = refl
-    turn false false z = refl
-
 -- what is no number is none with a byte more
 number-less : (word : List ℕ) (b : ℕ) → Number (word ++ (b ∷ [])) → Number word
 number-less word b n =
-    record { few = omega (arith, n .few, length-more word b); digits = both-one (allDigits word) (isDigit b) (sym (digits-more word b) ∙ n .digits); small = omega (arith, n .small, value-more word b) }
+    record {
+      few = omega (arith, n .few, length-more word b);
+      digits = and-eq-true-iff (all isDigit word) (isDigit b) .0 (sym (all-more isDigit word b) ∙ n .digits) .0;
+      small = omega (arith, n .small, value-more word b);
+    }
 
 pub spoiled-more : (word : List ℕ) (b : ℕ) → isNumber word ≡ false → isNumber (word ++ (b ∷ [])) ≡ false
-spoiled-more word b p = go (isNumber (word ++ (b ∷ []))) refl
-  where
-    go : (t : Bool) → isNumber (word ++ (b ∷ [])) ≡ t → t ≡ false
-    go true q = sym (is-number word (number-less word b (number-is _ q))) ∙ p
-    go false q = refl
-
--- words and their numbers, one list behind the other
-allNumbers-append : (xs ys : List (List ℕ)) → allNumbers (xs ++ ys) ≡ both (allNumbers xs) (allNumbers ys)
-unfolding allNumbers
-allNumbers-append [] ys = refl
-allNumbers-append (w ∷ xs) ys = rw (allNumbers-append xs ys) (both-group (isNumber w) (allNumbers xs) (allNumbers ys))
-
-values-append : (xs ys : List (List ℕ)) → values (xs ++ ys) ≡ values xs ++ values ys
-unfolding values
-values-append [] ys = refl
-values-append (w ∷ xs) ys = rw (values-append xs ys)
-
-pub length-values : (ws : List (List ℕ)) → length (values ws) ≡ length ws
-unfolding values
-length-values [] = refl
-length-values (w ∷ ws) = ap suc (length-values ws)
+spoiled-more word b p = refuted (isNumber (word ++ (b ∷ []))) (λ q. true≢false (sym (is-number word (number-less word b (number-is _ q))) ∙ p))
 
 -- a word with something in it is one word
 pub closed-one : (word : List ℕ) → 0 < length word → closed word ≡ word ∷ []
@@ -116,41 +77,29 @@ closed-one [] h = absurd (omega arith)
 closed-one (b ∷ word) h = refl
 
 -- a word that is no number grows into none
-spoiled : (word bs : List ℕ) → 0 < length word → isNumber word ≡ false → allNumbers (wordsFrom word bs) ≡ false
-unfolding wordsFrom allNumbers
+spoiled : (word bs : List ℕ) → 0 < length word → isNumber word ≡ false → all isNumber (wordsFrom word bs) ≡ false
+unfolding wordsFrom all
 spoiled word [] h p = rw (closed-one word h, p)
 spoiled word (b ∷ bs) h p = go (isSeparator b) (spoiled (word ++ (b ∷ [])) bs (omega (arith, length-more word b)) (spoiled-more word b p))
   where
-    go : (t : Bool) → allNumbers (wordsFrom (word ++ (b ∷ [])) bs) ≡ false
-        → allNumbers (pick t (closed word ++ wordsFrom [] bs) (wordsFrom (word ++ (b ∷ [])) bs)) ≡ false
+    go : (t : Bool) → all isNumber (wordsFrom (word ++ (b ∷ [])) bs) ≡ false
+        → all isNumber (cond t (closed word ++ wordsFrom [] bs) (wordsFrom (word ++ (b ∷ [])) bs)) ≡ false
     go true later = rw (closed-one word h, p)
     go false later = later
 
--- the text that words are
-unfoldable judged : List (List ℕ) → Text
-judged words = check (allNumbers words) bad (frameOf (values words))
-
-judged-spoiled : (xs ys : List (List ℕ)) → allNumbers ys ≡ false → judged (xs ++ ys) ≡ bad
-unfolding judged
-judged-spoiled xs ys p = rw (allNumbers-append xs ys, p) (none (allNumbers xs) (frameOf (values (xs ++ ys))))
-  where
-    none : (a : Bool) (t : Text) → check (both a false) bad t ≡ bad
-    none true t = refl
-    none false t = refl
+text-spoiled : (xs ys : List (List ℕ)) → all isNumber ys ≡ false → textOf (xs ++ ys) ≡ bad
+unfolding textOf
+text-spoiled xs ys p = rw (all-append isNumber xs ys, p, and-false (all isNumber xs))
 
 -- more than 834 numbers are no frame
 crowd : (numbers : List ℕ) → 834 < length numbers → frameOf numbers ≡ bad
 unfolding frameOf
 crowd numbers h = rw (le-leb 2 (length numbers) (omega arith), lt-leb (length numbers) 834 h)
 
-judged-crowd : (xs ys : List (List ℕ)) → 834 < length xs → judged (xs ++ ys) ≡ bad
-unfolding judged
-judged-crowd xs ys h =
-    rw (crowd (values (xs ++ ys)) (omega (arith, length-values (xs ++ ys), length-append xs ys))) (none (allNumbers (xs ++ ys)))
-  where
-    none : (a : Bool) → check a bad bad ≡ bad
-    none true = refl
-    none false = refl
+text-crowd : (xs ys : List (List ℕ)) → 834 < length xs → textOf (xs ++ ys) ≡ bad
+unfolding textOf
+text-crowd xs ys h =
+    check-same (all isNumber (xs ++ ys)) (crowd (map valueOf (xs ++ ys)) (omega (arith, length-map (xs ++ ys) valueOf, length-append xs ys)))
 
 -- one byte: the text is bad already, a separator, a digit, another
 pub step-refused : (s : State) (b : ℕ) → s .refused ≡ true → step s b ≡ s
@@ -180,56 +129,56 @@ unfolding taken ended
 taken-refused s bs p = rw (run-refused s bs p, p)
 
 -- what was taken, by the open number's end
-taken-shut : (s : State) → s .refused ≡ false → taken s ≡ pick (shut s .refused) bad (frameOf (shut s .numbers))
+taken-shut : (s : State) → s .refused ≡ false → taken s ≡ cond (shut s .refused) bad (frameOf (shut s .numbers))
 unfolding taken ended
 taken-shut s p = rw p
 
-judged-good : (words : List (List ℕ)) → allNumbers words ≡ true → judged words ≡ frameOf (values words)
-unfolding judged
-judged-good words p = rw p
+text-good : (words : List (List ℕ)) → all isNumber words ≡ true → textOf words ≡ frameOf (map valueOf words)
+unfolding textOf
+text-good words p = rw p
 
 -- a state that has the words done behind it and the word open
 pub record Stands (s : State) (done : List (List ℕ)) (word : List ℕ) : Type 0 where
   pub going : s .refused ≡ false
-  pub held : s .numbers ≡ values done
-  pub good : allNumbers done ≡ true
+  pub held : s .numbers ≡ map valueOf done
+  pub good : all isNumber done ≡ true
   room : length done ≤ 834
   digits : s .digits ≡ length word
   value : s .value ≡ valueOf word
   number : Number word
 
 none-open : Number []
-unfolding allDigits valueOf decimalFrom
+unfolding all valueOf
 none-open = record { few = omega arith; digits = refl; small = omega arith }
 
 -- the open word ends, or there are too many
 pub shut-stands : {s : State} {done : List (List ℕ)} (word : List ℕ) → Stands s done word
     → Stands (shut s) (done ++ closed word) [] ⊎ ((shut s .refused ≡ true) × (834 < length (done ++ closed word)))
-unfolding shut closed refuse allNumbers values valueOf decimalFrom
+unfolding shut closed refuse all valueOf
 shut-stands {s} {done} [] p = inl (rw (eq-eqb (s .digits) 0 (p .digits), append-nil done) p)
 shut-stands {s} {done} (a ∷ word) p =
     rw (ne-eqb (s .digits) 0 (λ e. omega (arith, p .digits)))
     (go (ltb (length (s .numbers)) 834) refl)
   where
     long : length (s .numbers) ≡ length done
-    long = ap length (p .held) ∙ length-values done
+    long = ap length (p .held) ∙ length-map done valueOf
 
     more : length (done ++ ((a ∷ word) ∷ [])) ≡ length done + 1
     more = length-append done ((a ∷ word) ∷ [])
 
-    all : allNumbers (done ++ ((a ∷ word) ∷ [])) ≡ true
-    all = rw (allNumbers-append done ((a ∷ word) ∷ []), p .good, is-number (a ∷ word) (p .number))
+    every : all isNumber (done ++ ((a ∷ word) ∷ [])) ≡ true
+    every = rw (all-append isNumber done ((a ∷ word) ∷ []), p .good, is-number (a ∷ word) (p .number))
 
-    next : s .numbers ++ (s .value ∷ []) ≡ values (done ++ ((a ∷ word) ∷ []))
-    next = rw (p .held, p .value, values-append done ((a ∷ word) ∷ []))
+    next : s .numbers ++ (s .value ∷ []) ≡ map valueOf (done ++ ((a ∷ word) ∷ []))
+    next = rw (p .held, p .value, map-append valueOf done ((a ∷ word) ∷ []))
 
     after : Bool → State
-    after t = pick t (record { refused = false; digits = 0; value = 0; numbers = s .numbers ++ (s .value ∷ []) }) (refuse s)
+    after t = cond t (record { refused = false; digits = 0; value = 0; numbers = s .numbers ++ (s .value ∷ []) }) (refuse s)
 
     go : (t : Bool) → ltb (length (s .numbers)) 834 ≡ t
         → Stands (after t) (done ++ ((a ∷ word) ∷ [])) [] ⊎ ((after t .refused ≡ true) × (834 < length (done ++ ((a ∷ word) ∷ []))))
     go true q =
-        inl (record { going = refl; held = next; good = all; room = omega (arith, ltb-true (length (s .numbers)) 834 q, long, more); digits = refl; value = refl; number = none-open })
+        inl (record { going = refl; held = next; good = every; room = omega (arith, ltb-true (length (s .numbers)) 834 q, long, more); digits = refl; value = refl; number = none-open })
     go false q = inr (refl, omega (arith, ltb-false (length (s .numbers)) 834 q, long, more))
 
 -- a byte that is no separator
@@ -238,61 +187,56 @@ pub word-more : {s : State} {done : List (List ℕ)} {word : List ℕ} (b : ℕ)
 unfolding step grown refuse
 word-more {s} {done} {word} b p n = rw (p .going, n) (go (isDigit b) refl)
   where
-    by : isNumber (word ++ (b ∷ [])) ≡ both (isDigit b) (both (ltb (s .digits) 5) (leb (s .value * 10 + (b - 48)) 65535))
+    by : isNumber (word ++ (b ∷ [])) ≡ isDigit b && (ltb (s .digits) 5 && leb (s .value * 10 + (b - 48)) 65535)
     by = rw (p .digits, p .value) (number-more word b (p .number))
 
     Out : State → Type 0
     Out t = Stands t done (word ++ (b ∷ [])) ⊎ ((t .refused ≡ true) × (isNumber (word ++ (b ∷ [])) ≡ false))
 
     grow : (t : Bool) → isNumber (word ++ (b ∷ [])) ≡ t
-        → Out (pick t (record { refused = false; digits = s .digits + 1; value = s .value * 10 + (b - 48); numbers = s .numbers }) (refuse s))
+        → Out (cond t (record { refused = false; digits = s .digits + 1; value = s .value * 10 + (b - 48); numbers = s .numbers }) (refuse s))
     grow true q =
         inl (record { going = refl; held = p .held; good = p .good; room = p .room; digits = rw (p .digits, length-more word b); value = rw (p .value, value-more word b); number = number-is _ q })
     grow false q = inr (refl, q)
 
-    go : (d : Bool) → isDigit b ≡ d → Out (pick d (grown s b) (refuse s))
+    go : (d : Bool) → isDigit b ≡ d → Out (cond d (grown s b) (refuse s))
     go true q = grow _ (rw q at by)
     go false q = inr (refl, rw q at by)
 
 -- the text from a state on
-scan-from : (bs : List ℕ) {s : State} {done : List (List ℕ)} {word : List ℕ} → Stands s done word → taken (run s bs) ≡ judged (done ++ wordsFrom word bs)
+scan-from : (bs : List ℕ) {s : State} {done : List (List ℕ)} {word : List ℕ} → Stands s done word → taken (run s bs) ≡ textOf (done ++ wordsFrom word bs)
 unfolding run wordsFrom
 scan-from [] {s} {done} {word} p = ⊎-elim there full (shut-stands word p)
   where
-    there : Stands (shut s) (done ++ closed word) [] → taken s ≡ judged (done ++ closed word)
-    there q = taken-shut s (p .going) ∙ rw (q .going, q .held) (sym (judged-good (done ++ closed word) (q .good)))
+    there : Stands (shut s) (done ++ closed word) [] → taken s ≡ textOf (done ++ closed word)
+    there q = taken-shut s (p .going) ∙ rw (q .going, q .held) (sym (text-good (done ++ closed word) (q .good)))
 
-    full : (shut s .refused ≡ true) × (834 < length (done ++ closed word)) → taken s ≡ judged (done ++ closed word)
-    full q = taken-shut s (p .going) ∙ rw (q .0) (sym (judged-crowd (done ++ closed word) [] (q .1)) ∙ ap judged (append-nil (done ++ closed word)))
+    full : (shut s .refused ≡ true) × (834 < length (done ++ closed word)) → taken s ≡ textOf (done ++ closed word)
+    full q = taken-shut s (p .going) ∙ rw (q .0) (sym (text-crowd (done ++ closed word) [] (q .1)) ∙ ap textOf (append-nil (done ++ closed word)))
 scan-from (b ∷ bs) {s} {done} {word} p = go (isSeparator b) refl (λ q. scan-from bs q) (λ q. scan-from bs q)
   where
     go : (t : Bool) → isSeparator b ≡ t
-        → (Stands (step s b) (done ++ closed word) [] → taken (run (step s b) bs) ≡ judged (done ++ closed word ++ wordsFrom [] bs))
-        → (Stands (step s b) done (word ++ (b ∷ [])) → taken (run (step s b) bs) ≡ judged (done ++ wordsFrom (word ++ (b ∷ [])) bs))
-        → taken (run (step s b) bs) ≡ judged (done ++ pick t (closed word ++ wordsFrom [] bs) (wordsFrom (word ++ (b ∷ [])) bs))
+        → (Stands (step s b) (done ++ closed word) [] → taken (run (step s b) bs) ≡ textOf (done ++ closed word ++ wordsFrom [] bs))
+        → (Stands (step s b) done (word ++ (b ∷ [])) → taken (run (step s b) bs) ≡ textOf (done ++ wordsFrom (word ++ (b ∷ [])) bs))
+        → taken (run (step s b) bs) ≡ textOf (done ++ cond t (closed word ++ wordsFrom [] bs) (wordsFrom (word ++ (b ∷ [])) bs))
     go true e next on =
         let is : step s b ≡ shut s = step-shuts s b (p .going) e in
         rw (← append-assoc done (closed word) (wordsFrom [] bs))
-        (⊎-elim (λ q. next (rw is q)) (λ q. taken-refused (step s b) bs (rw is (q .0)) ∙ sym (judged-crowd (done ++ closed word) (wordsFrom [] bs) (q .1))) (shut-stands word p))
+        (⊎-elim (λ q. next (rw is q)) (λ q. taken-refused (step s b) bs (rw is (q .0)) ∙ sym (text-crowd (done ++ closed word) (wordsFrom [] bs) (q .1))) (shut-stands word p))
     go false e next on =
-        ⊎-elim on (λ q. taken-refused (step s b) bs (q .0) ∙ sym (judged-spoiled done _ (spoiled (word ++ (b ∷ [])) bs (omega (arith, length-more word b)) (q .1))))
+        ⊎-elim on (λ q. taken-refused (step s b) bs (q .0) ∙ sym (text-spoiled done _ (spoiled (word ++ (b ∷ [])) bs (omega (arith, length-more word b)) (q .1))))
         (word-more b p e)
 
 -- nothing taken yet
 pub stands-start : Stands start [] []
-unfolding start values allNumbers valueOf decimalFrom
+unfolding start all valueOf
 stands-start = record { going = refl; held = refl; good = refl; room = omega arith; digits = refl; value = refl; number = none-open }
 
 -- scanning a whole text gives the text
-pub scanned : (bytes : List ℕ) → taken (run start bytes) ≡ textOf bytes
-unfolding textOf judged
-scanned bytes = scan-from bytes stands-start ∙ is
-  where
-    is : judged (wordsFrom [] bytes) ≡ check (allNumbers (wordsFrom [] bytes)) bad (frameOf (values (wordsFrom [] bytes)))
-    is = refl
+pub scanned : (bytes : List ℕ) → taken (run start bytes) ≡ textOf (wordsFrom [] bytes)
+scanned bytes = scan-from bytes stands-start
 
 -- a text in two pieces
 pub run-append : (s : State) (xs ys : List ℕ) → run (run s xs) ys ≡ run s (xs ++ ys)
 unfolding run
-run-append s [] ys = refl
-run-append s (b ∷ xs) ys = run-append (step s b) xs ys
+run-append s xs ys = sym (foldl-append step s xs ys)

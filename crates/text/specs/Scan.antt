@@ -1,12 +1,11 @@
 -- A text taken byte by byte. Nothing here is needed to say what a text means: that is in Text.
 -- Assumes nothing.
-use mathlib.Core.Bool.{Bool, true, false, not}
-use mathlib.Core.List.{List, [], _∷_, _++_}
+use mathlib.Core.Bool.{Bool, true, false, not, _&&_, cond}
+use mathlib.Core.List.{List, [], _∷_, _++_, foldl}
 use mathlib.Core.Path.{_≡_}
 use Prim.Native.Nat.{ℕ, _+_, _-_, _*_, _≤_}
 use lib.Dec.{leb, ltb, eqb}
 use lib.ListN.{length, take, getD}
-use Rattle.bits.specs.Pick.{pick, both}
 use Rattle.line.specs.declared.Outcome.{Outcome}
 use Rattle.text.specs.Text.{isSeparator, isDigit, Text, bad, frameOf, answerTo, outcomeTo}
 use Rattle.text.specs.declared.Scan.{Scan}
@@ -28,35 +27,34 @@ refuse s = record { refused = true; digits = s .digits; value = s .value; number
 -- the open number ends: there is place for 834
 unfoldable pub shut : State → State
 shut s =
-    pick (eqb (s .digits) 0) s
-    (pick (ltb (length (s .numbers)) 834)
+    cond (eqb (s .digits) 0) s
+    (cond (ltb (length (s .numbers)) 834)
     (record { refused = false; digits = 0; value = 0; numbers = s .numbers ++ (s .value ∷ []) })
     (refuse s))
 
 -- a digit more
 unfoldable pub grown : State → ℕ → State
 grown s b =
-    pick (both (ltb (s .digits) 5) (leb (s .value * 10 + (b - 48)) 65535))
+    cond (ltb (s .digits) 5 && leb (s .value * 10 + (b - 48)) 65535)
     (record { refused = false; digits = s .digits + 1; value = s .value * 10 + (b - 48); numbers = s .numbers })
     (refuse s)
 
 unfoldable pub step : State → ℕ → State
 step s b =
-    pick (s .refused) s
-    (pick (isSeparator b) (shut s)
-    (pick (isDigit b) (grown s b) (refuse s)))
+    cond (s .refused) s
+    (cond (isSeparator b) (shut s)
+    (cond (isDigit b) (grown s b) (refuse s)))
 
 unfoldable pub run : State → List ℕ → State
-run s [] = s
-run s (b ∷ bs) = run (step s b) bs
+run s bytes = foldl step s bytes
 
 -- the end of the text: it shuts the open number too
 unfoldable pub ended : State → State
-ended s = pick (s .refused) s (shut s)
+ended s = cond (s .refused) s (shut s)
 
 -- the text that was taken, at its end
 unfoldable pub taken : State → Text
-taken s = pick (ended s .refused) bad (frameOf (ended s .numbers))
+taken s = cond (ended s .refused) bad (frameOf (ended s .numbers))
 
 -- what a text that ends in this state is answered, and how
 unfoldable pub lineAt : State → List ℕ
@@ -87,4 +85,4 @@ pub record Holds (s : State) (c : Scan) (numbers : List ℕ) : Type 0 where
 
 -- whether a text that has ended is a frame: its first two numbers are there, and the second is 0 or 1
 abbrev pub isFrame : Scan → List ℕ → Bool
-isFrame c numbers = both (not (c .refused)) (both (leb 2 (c .count)) (leb (getD numbers 1 0) 1))
+isFrame c numbers = not (c .refused) && (leb 2 (c .count) && leb (getD numbers 1 0) 1)

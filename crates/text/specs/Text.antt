@@ -1,12 +1,12 @@
 -- Document 01, "Reading program": the text that it takes, as a list of bytes.
 -- Assumes nothing.
-use mathlib.Core.Bool.{Bool, true}
-use mathlib.Core.List.{List, [], _∷_, _++_}
+use mathlib.Core.Bool.{Bool, true, _&&_, _||_, cond}
+use mathlib.Core.List.{List, [], _∷_, _++_, map, foldl}
 use Prim.Native.Nat.{ℕ, _+_, _-_, _*_}
 use lib.Dec.{leb, eqb}
 use lib.ListN.{length, getD, take, drop}
 use Rattle.bits.specs.Bit.{isSet}
-use Rattle.bits.specs.Pick.{pick, both, either, check}
+use Rattle.bits.specs.Check.{check}
 use Rattle.bits.specs.Tab.{blank}
 use Rattle.line.specs.Line.{lineOf}
 use Rattle.line.specs.Outcome.{outcomeOf}
@@ -17,10 +17,10 @@ use Rattle.lora.specs.declared.Received.the-variants.{Payload, Refused}
 
 -- spaces and line ends stand between numbers
 abbrev pub isSeparator : ℕ → Bool
-isSeparator b = either (eqb b 32) (eqb b 10)
+isSeparator b = eqb b 32 || eqb b 10
 
 abbrev pub isDigit : ℕ → Bool
-isDigit b = both (leb 48 b) (leb b 57)
+isDigit b = leb 48 b && leb b 57
 
 -- the words of a text: a separator, or the end, closes the word that stands before it
 unfoldable pub closed : List ℕ → List (List ℕ)
@@ -30,31 +30,24 @@ closed (b ∷ bs) = (b ∷ bs) ∷ []
 unfoldable pub wordsFrom : List ℕ → List ℕ → List (List ℕ)
 wordsFrom word [] = closed word
 wordsFrom word (b ∷ bs) =
-    pick (isSeparator b) (closed word ++ wordsFrom [] bs) (wordsFrom (word ++ (b ∷ [])) bs)
+    cond (isSeparator b) (closed word ++ wordsFrom [] bs) (wordsFrom (word ++ (b ∷ [])) bs)
 
--- the decimal number that a word is
-unfoldable pub decimalFrom : ℕ → List ℕ → ℕ
-decimalFrom n [] = n
-decimalFrom n (b ∷ bs) = decimalFrom (n * 10 + (b - 48)) bs
+-- a test holds of each in a list
+module _ {A : Type 0} where
+  unfoldable pub all : (A → Bool) → List A → Bool
+  all p [] = true
+  all p (a ∷ l) = p a && all p l
+
+-- the decimal number that a word is, digit by digit
+abbrev pub withDigit : ℕ → ℕ → ℕ
+withDigit n b = n * 10 + (b - 48)
 
 unfoldable pub valueOf : List ℕ → ℕ
-valueOf word = decimalFrom 0 word
-
-unfoldable pub allDigits : List ℕ → Bool
-allDigits [] = true
-allDigits (b ∷ bs) = both (isDigit b) (allDigits bs)
+valueOf word = foldl withDigit 0 word
 
 -- a whole number 0 to 65535 of one to five digits (no word is empty)
 unfoldable pub isNumber : List ℕ → Bool
-isNumber word = both (leb (length word) 5) (both (allDigits word) (leb (valueOf word) 65535))
-
-unfoldable pub allNumbers : List (List ℕ) → Bool
-allNumbers [] = true
-allNumbers (w ∷ ws) = both (isNumber w) (allNumbers ws)
-
-unfoldable pub values : List (List ℕ) → List ℕ
-values [] = []
-values (w ∷ ws) = valueOf w ∷ values ws
+isNumber word = all isDigit word && (leb (length word) 5 && leb (valueOf word) 65535)
 
 -- what a text says: SF, low rate and symbols; or it can't be taken
 pub data Text : Type 0 where
@@ -70,21 +63,25 @@ frameOf numbers =
     (frame (getD numbers 0 0) (isSet (getD numbers 1 0)) (drop 2 numbers))))
 
 -- the whole text is judged before its meaning
-unfoldable pub textOf : List ℕ → Text
-textOf bytes = check (allNumbers (wordsFrom [] bytes)) bad (frameOf (values (wordsFrom [] bytes)))
+unfoldable pub textOf : List (List ℕ) → Text
+textOf words = check (all isNumber words) bad (frameOf (map valueOf words))
 
--- the payload that was read, into a buffer of 255 cells
-abbrev pub payloadOf : Received → ℕ → Bool → List ℕ → List ℕ
-payloadOf (Payload len cr flag total repairs) sf low symbols = take len (bytesAfter (Payload len cr flag total repairs) sf low symbols (blank 255 0))
-payloadOf (Refused number place) sf low symbols = []
+-- the payload of an answer, in the cells that were read into
+abbrev pub payloadIn : Received → List ℕ → List ℕ
+payloadIn (Payload a) cells = take (a .length) cells
+payloadIn (Refused number place) cells = []
+
+-- the line for what read answers, into 255 cells
+abbrev pub lineFor : ℕ → Bool → List ℕ → Received → List ℕ
+lineFor sf low symbols r = lineOf r (payloadIn r (bytesAfter r sf low symbols (blank 255 0)))
 
 -- the line that answers a text; any text that can't be taken is refusal 14
 abbrev pub answerTo : Text → List ℕ
 answerTo bad = lineOf (Refused 14 0) []
-answerTo (frame sf low symbols) = lineOf (readOf sf low symbols 255) (payloadOf (readOf sf low symbols 255) sf low symbols)
+answerTo (frame sf low symbols) = lineFor sf low symbols (readOf sf low symbols 255)
 
 unfoldable pub answerOf : List ℕ → List ℕ
-answerOf bytes = answerTo (textOf bytes)
+answerOf bytes = answerTo (textOf (wordsFrom [] bytes))
 
 -- how a text is answered: accepted with no repairs, with some, or refused
 abbrev pub outcomeTo : Text → Outcome
@@ -92,4 +89,4 @@ outcomeTo bad = outcomeOf (Refused 14 0)
 outcomeTo (frame sf low symbols) = outcomeOf (readOf sf low symbols 255)
 
 unfoldable pub outcomeIs : List ℕ → Outcome
-outcomeIs bytes = outcomeTo (textOf bytes)
+outcomeIs bytes = outcomeTo (textOf (wordsFrom [] bytes))

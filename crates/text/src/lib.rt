@@ -2,17 +2,19 @@
 ghost use mathlib.Core.Path.{_≡_};
 ghost use mathlib.Core.Bool.{false};
 ghost use Prim.Native.Nat.{_+_, _≤_};
-ghost use lib.Dec.{leb};
 ghost use lib.ListN.{length};
-ghost use Rattle.bits.specs.Pick.{pick};
 ghost use Rattle.bits.specs.Tab.{placed};
 ghost use Rattle.line.specs.Line.{lineOf};
 ghost use Rattle.line.specs.Outcome.{Answered, outcomeOf};
-ghost use Rattle.text.specs.Answer.{payloadIn, Shown};
+ghost use Rattle.text.specs.Answer.{Shown, narrowed};
 ghost use Rattle.text.specs.Scan.{Sane, Holds, step, grown, shut, run, ended, stateOf, refusing, isFrame, lineAt, outcomeAt};
-ghost use Rattle.text.specs.Text.{frame, answerTo, outcomeTo};
+ghost use Rattle.text.specs.Text.{frame, payloadIn, answerTo, outcomeTo};
+use layout::LONGEST;
 use line::Answer;
 use lora::Received;
+
+// The most numbers that a text has: SF, the low-rate flag and a frame's symbols.
+pub const NUMBERS: usize = 834;
 
 // How far a text was taken; the numbers before stand in a lent list of 834.
 pub struct Scan {
@@ -56,7 +58,7 @@ fn close_number(scan: Scan, numbers: &mut [u16]) -> Scan
     if scan.digits == 0 {
         return scan;
     }
-    if count < 834 {
+    if count < NUMBERS {
         numbers[count] = scan.value as u16;
         return Scan {
             refused: false,
@@ -142,13 +144,13 @@ pub fn is_frame(scan: Scan, numbers: &[u16]) -> bool
 
 // SF as the operations take it: what does not fit a byte is no spreading factor, and 255 is none either.
 pub fn narrow(sf: u16) -> u8
-    ensures { λ r. ⌜ r ≡ pick (leb sf 255) sf 255 ⌝ }
+    ensures { λ r. ⌜ r ≡ narrowed sf ⌝ }
 {
     if sf <= 255 { sf as u8 } else { 255 }
 }
 
 // The line for what was read into this payload.
-fn line_for(received: Received, payload: [u8; 255], out: &mut [u8]) -> usize
+fn line_for(received: Received, payload: [u8; LONGEST], out: &mut [u8]) -> usize
     requires { ⌜ Shown received × (640 ≤ length (now out)) ⌝ }
     ensures { λ r. ⌜ (r ≡ length (lineOf received (payloadIn received payload))) × (r ≤ 640) × (now (out .exit) ≡ placed 0 (lineOf received (payloadIn received payload)) (now (out .entry))) ⌝ }
 {
@@ -156,28 +158,12 @@ fn line_for(received: Received, payload: [u8; 255], out: &mut [u8]) -> usize
         Received::Refused { number, place } => {
             line::write_line(Received::Refused { number, place }, &payload[..0], out)
         }
-        Received::Payload {
-            length,
-            cr,
-            checksum,
-            symbols,
-            repairs,
-        } => line::write_line(
-            Received::Payload {
-                length,
-                cr,
-                checksum,
-                symbols,
-                repairs,
-            },
-            &payload[..length],
-            out,
-        ),
+        Received::Payload(a) => line::write_line(Received::Payload(a), &payload[..a.length], out),
     }
 }
 
 // The line, and how the text was answered.
-fn answer_with(received: Received, payload: [u8; 255], out: &mut [u8]) -> Answer
+fn answer_with(received: Received, payload: [u8; LONGEST], out: &mut [u8]) -> Answer
     requires { ⌜ Shown received × (640 ≤ length (now out)) ⌝ }
     ensures { λ r. ⌜ Answered 640 (lineOf received (payloadIn received payload)) (outcomeOf received) (now (out .entry)) (now (out .exit)) r ⌝ }
 {
@@ -192,7 +178,7 @@ fn answer_frame(sf: u16, low: bool, symbols: &[u16], out: &mut [u8]) -> Answer
     requires { ⌜ 640 ≤ length (now out) ⌝ }
     ensures { λ r. ⌜ Answered 640 (answerTo (frame sf low (now (symbols .entry)))) (outcomeTo (frame sf low (now (symbols .entry)))) (now (out .entry)) (now (out .exit)) r ⌝ }
 {
-    let mut payload = [0u8; 255];
+    let mut payload = [0u8; LONGEST];
     let received = lora::read(narrow(sf), low, symbols, &mut payload);
     answer_with(received, payload, out)
 }
@@ -207,10 +193,10 @@ pub fn answer(scan: Scan, numbers: &mut [u16], out: &mut [u8]) -> Answer
     if !is_frame(done, numbers) {
         return answer_with(
             Received::Refused {
-                number: 14,
+                number: refusal::BAD_TEXT,
                 place: 0,
             },
-            [0u8; 255],
+            [0u8; LONGEST],
             out,
         );
     }

@@ -1,6 +1,9 @@
 -- Document 01, "Whitening".
 -- Assumes nothing.
+use mathlib.Core.List.{List}
 use Prim.Native.Nat.{ℕ, zero, suc, _+_, _*_, _%_}
+use lib.Bits.{bitXor}
+use lib.ListN.{getD}
 use Rattle.bits.specs.Bit.{bit}
 
 -- the last byte doubled, mod 256, plus the parity of its bits 7, 5, 4 and 3
@@ -11,3 +14,7 @@ next w = w * 2 % 256 + (bit 7 w + bit 5 w + bit 4 w + bit 3 w) % 2
 unfoldable pub whitening : ℕ → ℕ
 whitening zero = 255
 whitening (suc i) = next (whitening i)
+
+-- payload bytes are XORed with w0, w1, ..
+abbrev pub whitened : List ℕ → ℕ → ℕ
+whitened bytes p = bitXor (getD bytes p 0) (whitening p)

@@ -1,8 +1,9 @@
-// The whitening bytes.
+// Whitening: payload bytes are XORed with the whitening bytes, and XORed again they are themselves.
 ghost use mathlib.Core.Path.{_≡_};
-ghost use Prim.Native.Nat.{_<_};
-ghost use Rattle.bits.specs.Tab.{tab};
-ghost use Rattle.whitening.specs.Whitening.{whitening};
+ghost use Prim.Native.Nat.{_≤_};
+ghost use lib.ListN.{length};
+ghost use Rattle.bits.specs.Tab.{over};
+ghost use Rattle.whitening.specs.Whitening.{whitened};
 
 const TABLE: [u8; 255] = [
     255,
@@ -262,17 +263,13 @@ const TABLE: [u8; 255] = [
     127,
 ];
 
-// The byte that payload byte i is XORed with.
-pub fn whitening(i: usize) -> u8
-    requires { ⌜ i < 255 ⌝ }
-    ensures { λ r. ⌜ r ≡ whitening i ⌝ }
+// Whitens the first len of the bytes. A constant array is copied at each use: here once a call.
+pub fn whiten(bytes: &mut [u8; 255], len: usize)
+    requires { ⌜ (len ≤ 255) × (length (now bytes) ≡ 255) ⌝ }
+    ensures { λ _. ⌜ now (bytes .exit) ≡ over len (whitened (now (bytes .entry))) (now (bytes .entry)) ⌝ }
 {
-    TABLE[i]
-}
-
-// All of them, for a caller that takes many and lends them: a constant array is copied at each use.
-pub fn table() -> [u8; 255]
-    ensures { λ r. ⌜ r ≡ tab 255 whitening ⌝ }
-{
-    TABLE
+    let table = TABLE;
+    for p in 0..len {
+        bytes[p] = bytes[p] ^ table[p];
+    }
 }

@@ -1,18 +1,18 @@
 -- From a wish's text to its line.
 -- Assumes nothing.
 use mathlib.Core.Path.{_≡_, refl, sym, ap, _∙_}
-use mathlib.Core.Bool.{Bool, true, false}
-use mathlib.Core.List.{List, [], _∷_, _++_, append-assoc, append-nil}
-use Prim.Native.Nat.{ℕ, _+_, _<_, _≤_}
-use native.Mathlib.Numerals.{add-one}
+use mathlib.Core.Bool.{Bool, true, false, _&&_, cond, and-false}
+use mathlib.Core.List.{List, [], _∷_, _++_}
+use Prim.Native.Nat.{ℕ, _<_, _≤_}
 use native.Mathlib.Omega.{arith}
 use borrow.Author.Tests.{eq-eqb, ne-eqb, lt-leb, le-leb, eqb-true, leb-true, leb-false}
 use lib.Dec.{leb, eqb}
 use lib.ListN.{length, getD, take}
-use lib.Seq.{take-suc, take-all, take-at, getD-take, length-take-le}
+use lib.Seq.{take-all, take-at, getD-take, length-take-le}
 use Rattle.bits.specs.Bit.{asBit}
-use Rattle.bits.specs.Pick.{pick, both, check}
-use Rattle.bits.specs.Tab.{tab, over, blank}
+use Rattle.bits.specs.Check.{check}
+use Rattle.bits.specs.Tab.{tab, blank}
+use Rattle.bits.proofs.Truth.{check-cond}
 use Rattle.bits.proofs.Tabs.{length-tab, length-blank}
 use Rattle.layout.specs.Layout.{validSf, validCr}
 use Rattle.line.specs.Line.{decimal, field}
@@ -25,17 +25,16 @@ use Rattle.lora.proofs.CountLaws.{coded}
 use Rattle.text.specs.Scan as head
 use Rattle.text.specs.Text.{wordsFrom}
 use Rattle.wish.specs.Answer.{isWish, narrow, sentLine, Fitted}
-use Rattle.wish.specs.Scan.{start, run, taken, complete, settingsBy, flagsBy, byteIn, stateOf, lineAt, outcomeAt, Sane}
-use Rattle.wish.specs.Wish.{Wish, bad, wish, wishOf, fields, frameLine, lineFor, outcomeFor, answerTo, outcomeTo, answerOf, outcomeIs}
+use Rattle.wish.specs.Scan.{start, run, taken, complete, byteIn, stateOf, lineAt, outcomeAt, Sane}
+use Rattle.wish.specs.Wish.{Wish, bad, wish, settingsOf, flagsHold, wishOf, fields, frameLine, lineFor, outcomeFor, answerTo, outcomeTo, answerOf, outcomeIs}
 use Rattle.wish.specs.declared.Scan.{Scan}
-use Rattle.wish.proofs.HexLaws.{both-none}
 use Rattle.wish.proofs.ScanLaws.{head-length}
 use Rattle.wish.proofs.WishLaws.{cut, scanned}
 
 -- two wishes that are answered alike
-pub record Same (v w : Wish) : Type 0 where
-  pub line : answerTo v ≡ answerTo w
-  pub outcome : outcomeTo v ≡ outcomeTo w
+record Same (v w : Wish) : Type 0 where
+  line : answerTo v ≡ answerTo w
+  outcome : outcomeTo v ≡ outcomeTo w
 
 refused-same : {s t : Settings} {p q : List ℕ} {number place : ℕ} → codeOf s p 832 ≡ Refused number place → codeOf t q 832 ≡ Refused number place → Same (wish s p) (wish t q)
 refused-same e f = record { line = rw (e, f); outcome = rw (e, f) }
@@ -55,11 +54,11 @@ code-third s p e f h = rw (e, f, lt-leb (length p) 255 h)
 
 high-sf : (n : ℕ) → 12 < n → validSf n ≡ false
 unfolding validSf
-high-sf n h = rw (lt-leb n 12 h) (both-none (leb 7 n))
+high-sf n h = rw (lt-leb n 12 h) (and-false (leb 7 n))
 
 high-cr : (n : ℕ) → 4 < n → validCr n ≡ false
 unfolding validCr
-high-cr n h = rw (lt-leb n 4 h) (both-none (leb 1 n))
+high-cr n h = rw (lt-leb n 4 h) (and-false (leb 1 n))
 
 -- a payload that is too long is refused alike where it is cut
 long-same : (s : Settings) (p q : List ℕ) → 255 < length p → 255 < length q → Same (wish s p) (wish s q)
@@ -86,13 +85,13 @@ unfolding narrow
 narrow-same s p = go (leb (s .sf) 255) (leb (s .cr) 255) refl refl
   where
     go : (t u : Bool) → leb (s .sf) 255 ≡ t → leb (s .cr) 255 ≡ u
-        → Same (wish (record { sf = pick t (s .sf) 255; low = s .low; cr = pick u (s .cr) 255; checksum = s .checksum }) p) (wish s p)
+        → Same (wish (record { sf = cond t (s .sf) 255; low = s .low; cr = cond u (s .cr) 255; checked = s .checked }) p) (wish s p)
     go true true e f = record { line = refl; outcome = refl }
     go false u e f =
         refused-same (code-first _ p (high-sf 255 (omega arith))) (code-first s p (high-sf (s .sf) (omega (arith, leb-false (s .sf) 255 e))))
     go true false e f = by (validSf (s .sf)) refl
       where
-        by : (v : Bool) → validSf (s .sf) ≡ v → Same (wish (record { sf = s .sf; low = s .low; cr = 255; checksum = s .checksum }) p) (wish s p)
+        by : (v : Bool) → validSf (s .sf) ≡ v → Same (wish (record { sf = s .sf; low = s .low; cr = 255; checked = s .checked }) p) (wish s p)
         by false g = refused-same (code-first _ p g) (code-first s p g)
         by true g =
             refused-same (code-second _ p g (high-cr 255 (omega arith))) (code-second s p g (high-cr (s .cr) (omega (arith, leb-false (s .cr) 255 f))))
@@ -124,21 +123,6 @@ pub coding-of : {n : Settings} {part payload symbols : List ℕ} {r : Counted} (
     → Coding (narrow s) payload (blank 832 0) symbols r
 coding-of s e f c = rw (e, f) at c
 
--- the first cells of a list that was filled
-pub filled-front : (n : ℕ) (f : ℕ → ℕ) (d : List ℕ) → take n (over n f d) ≡ tab n f
-filled-front n f d = take-at (tab n f) _ n (length-tab n f)
-
--- the symbols' fields, one after the other
-fields-append : (l m : List ℕ) → fields (l ++ m) ≡ fields l ++ fields m
-unfolding fields
-fields-append [] m = refl
-fields-append (n ∷ l) m = rw (fields-append l m) (sym (append-assoc (field n) (fields l) (fields m)))
-
-pub fields-more : (l : List ℕ) (i : ℕ) → i < length l → fields (take i l) ++ field (getD l i 0) ≡ fields (take (i + 1) l)
-unfolding fields
-fields-more l i h =
-    rw (add-one i, take-suc l i 0 h, fields-append (take i l) (getD l i 0 ∷ []), append-nil (field (getD l i 0)))
-
 pub frame-line : {x y : ℕ} (s : Settings) (symbols : List ℕ) → x ≡ s .sf → y ≡ asBit (s .low)
     → frameLine s symbols ≡ decimal x ++ (field y ++ (fields symbols ++ (10 ∷ [])))
 unfolding frameLine
@@ -153,43 +137,39 @@ module _ (c : Scan) (numbers : List ℕ) where
   wish-few e n = rw (e, ne-eqb (c .head .count) 4 n)
 
   pub wish-rate : complete (c .word) ≡ true → c .head .count ≡ 4 → 1 < getD numbers 1 0 → false ≡ isWish c numbers
-  unfolding flagsBy
+  unfolding flagsHold
   wish-rate e n h = rw (e, eq-eqb (c .head .count) 4 n, lt-leb (getD numbers 1 0) 1 h)
 
   pub wish-flag : complete (c .word) ≡ true → c .head .count ≡ 4 → getD numbers 1 0 ≤ 1 → leb (getD numbers 3 0) 1 ≡ isWish c numbers
-  unfolding flagsBy
+  unfolding flagsHold
   wish-flag e n h = rw (e, eq-eqb (c .head .count) 4 n, le-leb (getD numbers 1 0) 1 h)
 
 -- the four numbers in front of a list
-front-flags : (n : ℕ) (l : List ℕ) → 3 < n → flagsBy (take n l) ≡ flagsBy l
-unfolding flagsBy
+front-flags : (n : ℕ) (l : List ℕ) → 3 < n → flagsHold (take n l) ≡ flagsHold l
+unfolding flagsHold
 front-flags n l h = rw (getD-take n l 1 0 (omega arith), getD-take n l 3 0 h)
 
-front-settings : (n : ℕ) (l : List ℕ) → 3 < n → settingsBy (take n l) ≡ settingsBy l
-unfolding settingsBy
+front-settings : (n : ℕ) (l : List ℕ) → 3 < n → settingsOf (take n l) ≡ settingsOf l
+unfolding settingsOf
 front-settings n l h = rw (getD-take n l 0 0 (omega arith), getD-take n l 1 0 (omega arith), getD-take n l 2 0 (omega arith), getD-take n l 3 0 h)
 
 -- what a text that has ended is, by the struct and the list
 pub wish-is : {c : Scan} {numbers : List ℕ} → Sane c numbers
-    → taken (stateOf c numbers) ≡ pick (isWish c numbers) (wish (settingsBy numbers) (tab (c .bytes) (byteIn numbers))) bad
+    → taken (stateOf c numbers) ≡ cond (isWish c numbers) (wish (settingsOf numbers) (tab (c .bytes) (byteIn numbers))) bad
 unfolding taken stateOf head.stateOf
 wish-is {c} {numbers} p = rw (head-length (c .head) numbers (p .head)) (go (complete (c .word)) (eqb (c .head .count) 4) refl)
   where
     front : List ℕ
     front = take (c .head .count) numbers
 
-    turn : (t : Bool) (w : Wish) → check t bad w ≡ pick t w bad
-    turn true w = refl
-    turn false w = refl
-
     go : (t u : Bool) → eqb (c .head .count) 4 ≡ u
-        → check t bad (check u bad (check (flagsBy front) bad (wish (settingsBy front) (tab (c .bytes) (byteIn numbers)))))
-        ≡ pick (both t (both u (flagsBy numbers))) (wish (settingsBy numbers) (tab (c .bytes) (byteIn numbers))) bad
+        → check t bad (check u bad (check (flagsHold front) bad (wish (settingsOf front) (tab (c .bytes) (byteIn numbers)))))
+        ≡ cond (t && (u && flagsHold numbers)) (wish (settingsOf numbers) (tab (c .bytes) (byteIn numbers))) bad
     go false u e = refl
     go true false e = refl
     go true true e =
         let h : 3 < c .head .count = omega (arith, eqb-true (c .head .count) 4 e) in
-        rw (front-flags (c .head .count) numbers h, front-settings (c .head .count) numbers h) (turn (flagsBy numbers) _)
+        rw (front-flags (c .head .count) numbers h, front-settings (c .head .count) numbers h) (check-cond (flagsHold numbers) bad _)
 
 -- whatever pieces a text was taken in, its line is the one that answers the whole text
 pub answers-wish : (bytes : List ℕ) → lineAt (run start bytes) ≡ answerOf bytes

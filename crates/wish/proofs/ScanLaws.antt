@@ -1,16 +1,15 @@
 -- The struct and the list of numbers hold the state that a wish taken byte by byte has.
 -- Assumes nothing.
 use mathlib.Core.Path.{_≡_, refl, sym, ap, _∙_}
-use mathlib.Core.Bool.{Bool, true, false}
-use mathlib.Core.List.{List, [], _∷_, _++_, append-nil}
+use mathlib.Core.Bool.{Bool, true, false, _&&_, cond, and-false}
+use mathlib.Core.List.{List, [], _∷_, _++_, append-nil, foldl-append}
 use Prim.Native.Nat.{ℕ, _+_, _-_, _*_, _<_, _≤_}
 use native.Mathlib.Numerals.{add-one}
 use native.Mathlib.Omega.{arith}
 use borrow.Author.Tests.{lt-ltb, le-ltb}
 use lib.Dec.{leb, ltb, eqb}
-use lib.ListN.{length, take, getD, set, length-set, length-append}
-use lib.Seq.{length-take-le, take-suc, take-all, take-at, take-set-le, getD-set-same, getD-set-other}
-use Rattle.bits.specs.Pick.{pick, both}
+use lib.ListN.{length, take, set, length-set, length-append}
+use lib.Seq.{length-take-le, take-all, take-at, take-set-le, getD-set-same, getD-set-other}
 use Rattle.bits.specs.Tab.{tab}
 use Rattle.bits.proofs.Tabs.{length-tab, tab-cong}
 use Rattle.text.specs.Text.{isSeparator, isDigit}
@@ -21,18 +20,17 @@ use Rattle.wish.specs.Scan.{State, start, nextWord, added, headed, worde
 use Rattle.wish.specs.declared.Scan.{Scan}
 use Rattle.wish.specs.declared.Word.{Word}
 use Rattle.wish.specs.declared.Word.the-variants.{Before}
-use Rattle.wish.proofs.HexLaws.{both-none}
 
 -- no byte of the payload ends here: no upper digit stands open, or this is no digit
-added-no-high : (word : Word) (b : ℕ) → 16 ≤ highOf word → added word b ≡ []
+pub added-no-high : (word : Word) (b : ℕ) → 16 ≤ highOf word → added word b ≡ []
 unfolding added
 added-no-high word b h = rw (le-ltb (highOf word) 16 h)
 
-added-no-low : (word : Word) (b : ℕ) → isHex b ≡ false → added word b ≡ []
+pub added-no-low : (word : Word) (b : ℕ) → isHex b ≡ false → added word b ≡ []
 unfolding added
-added-no-low word b e = rw (e, both-none (ltb (highOf word) 16))
+added-no-low word b e = rw (e, and-false (ltb (highOf word) 16))
 
-added-one : (word : Word) (b : ℕ) → highOf word < 16 → isHex b ≡ true → added word b ≡ (highOf word * 16 + hexValue b) ∷ []
+pub added-one : (word : Word) (b : ℕ) → highOf word < 16 → isHex b ≡ true → added word b ≡ (highOf word * 16 + hexValue b) ∷ []
 unfolding added
 added-one word b h e = rw (e, lt-ltb (highOf word) 16 h)
 
@@ -80,7 +78,7 @@ shut-length : (s : head.State) → length (head.shut s .numbers) ≤ length (s .
 unfolding head.shut head.refuse
 shut-length s = go (eqb (s .digits) 0) (ltb (length (s .numbers)) 834)
   where
-    go : (e f : Bool) → length (pick e s (pick f (record { refused = false; digits = 0; value = 0; numbers = s .numbers ++ (s .value ∷ []) }) (head.refuse s)) .numbers)
+    go : (e f : Bool) → length (cond e s (cond f (record { refused = false; digits = 0; value = 0; numbers = s .numbers ++ (s .value ∷ []) }) (head.refuse s)) .numbers)
         ≤ length (s .numbers) + 1
     go true f = omega arith
     go false true = rw length-append (omega arith)
@@ -88,9 +86,9 @@ shut-length s = go (eqb (s .digits) 0) (ltb (length (s .numbers)) 834)
 
 grown-length : (s : head.State) (b : ℕ) → length (head.grown s b .numbers) ≡ length (s .numbers)
 unfolding head.grown head.refuse
-grown-length s b = go (both (ltb (s .digits) 5) (leb (s .value * 10 + (b - 48)) 65535))
+grown-length s b = go (ltb (s .digits) 5 && leb (s .value * 10 + (b - 48)) 65535)
   where
-    go : (e : Bool) → length (pick e (record { refused = false; digits = s .digits + 1; value = s .value * 10 + (b - 48); numbers = s .numbers }) (head.refuse s) .numbers)
+    go : (e : Bool) → length (cond e (record { refused = false; digits = s .digits + 1; value = s .value * 10 + (b - 48); numbers = s .numbers }) (head.refuse s) .numbers)
         ≡ length (s .numbers)
     go true = refl
     go false = refl
@@ -99,7 +97,7 @@ step-length : (s : head.State) (b : ℕ) → length (head.step s b .numbers) ≤
 unfolding head.step head.refuse
 step-length s b = go (s .refused) (isSeparator b) (isDigit b)
   where
-    go : (r t d : Bool) → length (pick r s (pick t (head.shut s) (pick d (head.grown s b) (head.refuse s))) .numbers) ≤ length (s .numbers) + 1
+    go : (r t d : Bool) → length (cond r s (cond t (head.shut s) (cond d (head.grown s b) (head.refuse s))) .numbers) ≤ length (s .numbers) + 1
     go true t d = omega arith
     go false true d = shut-length s
     go false false true = omega (arith, grown-length s b)
@@ -110,7 +108,7 @@ pub step-keeps : (s : head.State) (b : ℕ) → isSeparator b ≡ false → leng
 unfolding head.step head.refuse
 step-keeps s b e = rw e (go (s .refused) (isDigit b))
   where
-    go : (r d : Bool) → length (pick r s (pick d (head.grown s b) (head.refuse s)) .numbers) ≡ length (s .numbers)
+    go : (r d : Bool) → length (cond r s (cond d (head.grown s b) (head.refuse s)) .numbers) ≡ length (s .numbers)
     go true d = refl
     go false true = grown-length s b
     go false false = refl
@@ -119,15 +117,23 @@ pub head-length : (d : heads.Scan) (numbers : List ℕ) → head.Sane d numbers 
 unfolding head.stateOf
 head-length d numbers p = length-take-le (d .count) numbers (omega (arith, p .placed, p .long))
 
+-- a byte before the payload's word, and one of it
+pub step-head : (s : State) (b : ℕ) → length (s .head .numbers) < 4 → step s b ≡ headed s b
+unfolding step
+step-head s b h = rw (lt-ltb (length (s .head .numbers)) 4 h)
+
+pub step-word : (s : State) (b : ℕ) → 4 ≤ length (s .head .numbers) → step s b ≡ worded s b
+unfolding step
+step-word s b h = rw (le-ltb (length (s .head .numbers)) 4 h)
+
 module _ {c : Scan} {numbers : List ℕ} where
-  -- a byte before the payload's word, and one of it
-  pub step-headed : (b : ℕ) → Sane c numbers → c .head .count < 4 → step (stateOf c numbers) b ≡ headed (stateOf c numbers) b
-  unfolding step stateOf
-  step-headed b p h = rw (head-length (c .head) numbers (p .head), lt-ltb (c .head .count) 4 h)
+  step-headed : (b : ℕ) → Sane c numbers → c .head .count < 4 → step (stateOf c numbers) b ≡ headed (stateOf c numbers) b
+  unfolding stateOf
+  step-headed b p h = step-head (stateOf c numbers) b (rw (head-length (c .head) numbers (p .head)) h)
 
   pub step-worded : (b : ℕ) → Sane c numbers → 4 ≤ c .head .count → step (stateOf c numbers) b ≡ worded (stateOf c numbers) b
-  unfolding step stateOf
-  step-worded b p h = rw (head-length (c .head) numbers (p .head), le-ltb (c .head .count) 4 h)
+  unfolding stateOf
+  step-worded b p h = step-word (stateOf c numbers) b (rw (head-length (c .head) numbers (p .head)) h)
 
   pub holds-headed : {d : heads.Scan} {later : List ℕ} (b : ℕ) → Sane c numbers → c .head .count < 4 → head.Holds (head.step (head.stateOf (c .head) numbers) b) d later
       → Holds (step (stateOf c numbers) b) (record { head = d; word = Before; bytes = 0 }) later
@@ -164,25 +170,7 @@ module _ {c : Scan} {numbers : List ℕ} where
 -- a text in two pieces
 pub run-append : (s : State) (xs ys : List ℕ) → run (run s xs) ys ≡ run s (xs ++ ys)
 unfolding run
-run-append s [] ys = refl
-run-append s (b ∷ xs) ys = run-append (step s b) xs ys
-
-run-more : (s : State) (piece : List ℕ) (i : ℕ) → i < length piece → step (run s (take i piece)) (getD piece i 0) ≡ run s (take (i + 1) piece)
-unfolding run
-run-more s piece i h = rw (add-one i, take-suc piece i 0 h) (run-append s (take i piece) (getD piece i 0 ∷ []))
-
--- a piece that is taken up to i: nothing yet, a byte more, all of it
-pub fed-none : {c : Scan} {numbers : List ℕ} (piece : List ℕ) → Sane c numbers → Holds (run (stateOf c numbers) (take 0 piece)) c numbers
-unfolding run
-fed-none piece p = record { sane = p; is = refl }
-
-pub fed-more : {c d : Scan} {numbers later : List ℕ} (s : State) (piece : List ℕ) (i : ℕ) → i < length piece → Holds (run s (take i piece)) c numbers
-    → Holds (step (stateOf c numbers) (getD piece i 0)) d later → Holds (run s (take (i + 1) piece)) d later
-fed-more s piece i h p q = rw (← run-more s piece i h, ← p .is) q
-
-pub fed-all : {c : Scan} {numbers : List ℕ} (s : State) (piece : List ℕ) (i : ℕ) → length piece ≤ i → Holds (run s (take i piece)) c numbers
-    → Holds (run s piece) c numbers
-fed-all s piece i h p = rw (take-all i piece h) at p
+run-append s xs ys = sym (foldl-append step s xs ys)
 
 -- a struct of the beginning: nothing of the text is taken
 pub holds-start : (c : Scan) (numbers : List ℕ) → Begun c → length numbers ≡ 834 → Holds start c numbers

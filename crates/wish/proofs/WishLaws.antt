@@ -1,43 +1,31 @@
 -- A wish taken byte by byte is the wish that it is, with its payload cut at 256 bytes, in pieces of any size.
 -- Assumes nothing.
 use mathlib.Core.Path.{_≡_, refl, sym, ap, _∙_}
-use mathlib.Core.Bool.{Bool, true, false}
+use mathlib.Core.Bool.{Bool, true, false, cond, and-false}
 use mathlib.Core.List.{List, [], _∷_, _++_, append-assoc}
 use mathlib.Core.Logic.{⊎-elim}
-use Prim.Native.Nat.{ℕ, _<_, _≤_}
+use Prim.Native.Nat.{ℕ, zero, suc, _<_, _≤_}
 use native.Mathlib.Omega.{arith}
-use borrow.Author.Tests.{lt-ltb, ne-eqb, ltb-true, ltb-false}
-use lib.Dec.{leb, ltb, eqb}
-use lib.ListN.{length, take, getD, length-append}
-use Rattle.bits.specs.Pick.{pick, both, check}
-use Rattle.text.specs.Text.{isSeparator, closed, wordsFrom, isNumber, allNumbers, valueOf, values}
+use borrow.Author.Tests.{ne-eqb, ltb-true, ltb-false}
+use lib.Dec.{ltb, eqb}
+use lib.ListN.{length, take, getD, length-append, length-map}
+use Rattle.bits.specs.Check.{check}
+use Rattle.bits.proofs.Lists.{length-more, take-take-nil}
+use Rattle.bits.proofs.Truth.{cond-same, check-same, check-swap}
+use Rattle.text.specs.Text.{isSeparator, all, closed, wordsFrom, isNumber, valueOf}
 use Rattle.text.specs.Scan as head
-use Rattle.text.proofs.TextLaws.{Stands, stands-start, shut-stands, word-more, spoiled-more, closed-one, length-more, length-values, both-one, both-two, step-refused, step-shuts}
-use Rattle.wish.specs.Wish.{Wish, bad, wish, isFlag, isPayload, payloadOf, settingsOf, wishIn, wishOf}
-use Rattle.wish.specs.Scan.{State, start, nextWord, headed, worded, step, run, complete, settingsBy, flagsBy, taken, added, shutWord, grownWord}
+use Rattle.text.proofs.TextLaws.{Stands, stands-start, shut-stands, word-more, spoiled-more, closed-one, step-refused, step-shuts}
+use Rattle.wish.specs.Wish.{Wish, bad, wish, isPayload, payloadOf, settingsOf, flagsHold, wishOf}
+use Rattle.wish.specs.Scan.{State, start, nextWord, headed, worded, run, complete, taken, added, shutWord, grownWord}
 use Rattle.wish.specs.declared.Word.{Word}
 use Rattle.wish.specs.declared.Word.the-variants.{Before, Closed, Bad}
-use Rattle.wish.proofs.ScanLaws.{step-keeps}
-use Rattle.wish.proofs.PayloadLaws.{cut-same, Reads, reads-more, Ended, reads-end, reads-none, separator-adds}
+use Rattle.wish.proofs.ScanLaws.{step-keeps, step-head, step-word}
+use Rattle.wish.proofs.PayloadLaws.{Reads, reads-more, Ended, reads-end, reads-none, separator-adds}
 
 -- a wish with its payload cut at 256 bytes
 abbrev pub cut : Wish → Wish
 cut bad = bad
 cut (wish s payload) = wish s (take 256 payload)
-
--- one byte: of the numbers, of the payload
-step-head : (s : State) (b : ℕ) → length (s .head .numbers) < 4 → step s b ≡ headed s b
-unfolding step
-step-head s b h = rw (lt-ltb (length (s .head .numbers)) 4 h)
-
-step-word : (s : State) (b : ℕ) → length (s .head .numbers) ≡ 4 → step s b ≡ worded s b
-unfolding step
-step-word s b e = rw e
-
--- a check before a wish that is bad anyway
-none : (t : Bool) {w : Wish} → w ≡ bad → check t bad w ≡ bad
-none true e = e
-none false e = refl
 
 -- what isn't a payload yet
 taken-open : (s : State) → complete (s .word) ≡ false → taken s ≡ bad
@@ -55,24 +43,20 @@ next-grows w b e = rw e
 
 next-bad : (b : ℕ) → nextWord Bad b ≡ Bad
 unfolding nextWord
-next-bad b = same (isSeparator b)
-  where
-    same : (t : Bool) → pick t Bad Bad ≡ Bad
-    same true = refl
-    same false = refl
+next-bad b = cond-same (isSeparator b) Bad
 
 -- where the payload's word is none it stays so
 bad-from : (bs : List ℕ) (s : State) → length (s .head .numbers) ≡ 4 → s .word ≡ Bad → taken (run s bs) ≡ bad
 unfolding run worded
 bad-from [] s e f = taken-open s (rw f)
-bad-from (b ∷ bs) s e f = rw (step-word s b e) (bad-from bs (worded s b) e (rw f (next-bad b)))
+bad-from (b ∷ bs) s e f = rw (step-word s b (omega arith)) (bad-from bs (worded s b) e (rw f (next-bad b)))
 
 -- what four numbers and a payload's word say
 unfoldable fours : List ℕ → List ℕ → List ℕ → List ℕ → List ℕ
 fours a b c d = valueOf a ∷ valueOf b ∷ valueOf c ∷ valueOf d ∷ []
 
 unfoldable said : List ℕ → Bool → List ℕ → Wish
-said numbers t payload = check t bad (check (flagsBy numbers) bad (wish (settingsBy numbers) payload))
+said numbers t payload = check t bad (check (flagsHold numbers) bad (wish (settingsOf numbers) payload))
 
 said-bad : (numbers payload : List ℕ) → said numbers false payload ≡ bad
 unfolding said
@@ -80,9 +64,9 @@ said-bad numbers payload = refl
 
 cut-said : (numbers : List ℕ) (t : Bool) (payload : List ℕ) → cut (said numbers t payload) ≡ said numbers t (take 256 payload)
 unfolding said
-cut-said numbers t payload = go t (flagsBy numbers)
+cut-said numbers t payload = go t (flagsHold numbers)
   where
-    go : (x y : Bool) → cut (check x bad (check y bad (wish (settingsBy numbers) payload))) ≡ check x bad (check y bad (wish (settingsBy numbers) (take 256 payload)))
+    go : (x y : Bool) → cut (check x bad (check y bad (wish (settingsOf numbers) payload))) ≡ check x bad (check y bad (wish (settingsOf numbers) (take 256 payload)))
     go true true = refl
     go true false = refl
     go false y = refl
@@ -101,7 +85,7 @@ unfolding wordsFrom
 some-word word [] h = rw (closed-one word h) (omega arith)
 some-word word (b ∷ bs) h = go (isSeparator b) (some-word (word ++ (b ∷ [])) bs (omega (arith, length-more word b)))
   where
-    go : (t : Bool) → 0 < length (wordsFrom (word ++ (b ∷ [])) bs) → 0 < length (pick t (closed word ++ wordsFrom [] bs) (wordsFrom (word ++ (b ∷ [])) bs))
+    go : (t : Bool) → 0 < length (wordsFrom (word ++ (b ∷ [])) bs) → 0 < length (cond t (closed word ++ wordsFrom [] bs) (wordsFrom (word ++ (b ∷ [])) bs))
     go true later = rw (closed-one word h) (omega arith)
     go false later = later
 
@@ -111,17 +95,10 @@ unfolding wishOf
 six-words a b c d w [] h = absurd (omega arith)
 six-words a b c d w (v ∷ ws) h = rw (ne-eqb (length (a ∷ b ∷ c ∷ d ∷ w ∷ v ∷ ws)) 5 (λ e. omega arith))
 
-module _ (a b c d : List ℕ) (ia : isNumber a ≡ true) (ib : isNumber b ≡ true) (ic : isNumber c ≡ true) (id : isNumber d ≡ true) where
+module _ (a b c d : List ℕ) (good : all isNumber (a ∷ b ∷ c ∷ d ∷ []) ≡ true) where
   five-words : (w : List ℕ) → wishOf (a ∷ b ∷ c ∷ d ∷ w ∷ []) ≡ said (fours a b c d) (isPayload w) (payloadOf w)
-  unfolding wishOf wishIn isFlag said fours flagsBy settingsBy settingsOf
-  five-words w = rw (ia, ib, ic, id) (turn (leb (valueOf b) 1) (leb (valueOf d) 1) (isPayload w) _)
-    where
-      turn : (x y t : Bool) (v : Wish) → check x bad (check y bad (check t bad v)) ≡ check t bad (check (both x y) bad v)
-      turn true true t v = refl
-      turn true false true v = refl
-      turn true false false v = refl
-      turn false y true v = refl
-      turn false y false v = refl
+  unfolding wishOf said fours
+  five-words w = rw good (check-swap (flagsHold (fours a b c d)) (isPayload w) bad _)
 
   five-cut : (w : List ℕ) → said (fours a b c d) (isPayload w) (take 256 (payloadOf w)) ≡ cut (wishOf (a ∷ b ∷ c ∷ d ∷ w ∷ []))
   five-cut w = sym (ap cut (five-words w) ∙ cut-said (fours a b c d) (isPayload w) (payloadOf w))
@@ -137,14 +114,14 @@ module _ (a b c d : List ℕ) (ia : isNumber a ≡ true) (ib : isNumber b ≡ tr
   closed-from [] s w e f g q = taken-said a b c d s e ∙ rw (f, q, ← g) (five-cut w)
   closed-from (x ∷ bs) s w e f g q =
       let four : length (s .head .numbers) ≡ 4 = ap length e ∙ fours-length a b c d in
-      rw (step-word s x four) (go (isSeparator x) refl four (λ p r. closed-from bs (worded s x) w e p g r))
+      rw (step-word s x (omega arith)) (go (isSeparator x) refl four (λ p r. closed-from bs (worded s x) w e p g r))
     where
       go : (t : Bool) → isSeparator x ≡ t → length (s .head .numbers) ≡ 4
           → (nextWord (s .word) x ≡ Closed → take 256 (s .payload ++ added (s .word) x) ≡ take 256 (payloadOf w)
           → taken (run (worded s x) bs) ≡ cut (wishOf (a ∷ b ∷ c ∷ d ∷ w ∷ wordsFrom [] bs)))
-          → taken (run (worded s x) bs) ≡ cut (wishOf (a ∷ b ∷ c ∷ d ∷ w ∷ pick t (wordsFrom [] bs) (wordsFrom (x ∷ []) bs)))
+          → taken (run (worded s x) bs) ≡ cut (wishOf (a ∷ b ∷ c ∷ d ∷ w ∷ cond t (wordsFrom [] bs) (wordsFrom (x ∷ []) bs)))
       go true h four next =
-          next (rw f (next-shuts Closed x h)) (rw (separator-adds (s .word) x h, q) (cut-same 256 (payloadOf w)))
+          next (rw f (next-shuts Closed x h)) (rw (separator-adds (s .word) x h, q) (take-take-nil 256 (payloadOf w)))
       go false h four next =
           bad-from bs (worded s x) four (rw f (next-grows Closed x h))
           ∙ sym (ap cut (six-words a b c d w (wordsFrom (x ∷ []) bs) (some-word (x ∷ []) bs (omega arith))))
@@ -161,7 +138,7 @@ module _ (a b c d : List ℕ) (ia : isNumber a ≡ true) (ib : isNumber b ≡ tr
       ended false h q = taken-open s h ∙ sym (ap cut (no-payload (y ∷ w) [] (sym (q .whether) ∙ h)))
   payload-from (x ∷ bs) s w e r =
       let four : length (s .head .numbers) ≡ 4 = ap length e ∙ fours-length a b c d in
-      rw (step-word s x four) (go (isSeparator x) refl four (λ v q. payload-from bs (worded s x) v e q))
+      rw (step-word s x (omega arith)) (go (isSeparator x) refl four (λ v q. payload-from bs (worded s x) v e q))
     where
       later : Wish
       later = taken (run (worded s x) bs)
@@ -173,7 +150,7 @@ module _ (a b c d : List ℕ) (ia : isNumber a ≡ true) (ib : isNumber b ≡ tr
           → later ≡ cut (wishOf (a ∷ b ∷ c ∷ d ∷ v ∷ wordsFrom [] bs))
       ends v true k h four q =
           closed-from bs (worded s x) v e (next-shuts (s .word) x h ∙ q .shuts ∙ rw k) (sym (q .whether) ∙ k)
-          (rw (separator-adds (s .word) x h, q .bytes k) (cut-same 256 (payloadOf v)))
+          (rw (separator-adds (s .word) x h, q .bytes k) (take-take-nil 256 (payloadOf v)))
       ends v false k h four q =
           bad-from bs (worded s x) four (next-shuts (s .word) x h ∙ q .shuts ∙ rw k)
           ∙ sym (ap cut (no-payload v (wordsFrom [] bs) (sym (q .whether) ∙ k)))
@@ -186,7 +163,7 @@ module _ (a b c d : List ℕ) (ia : isNumber a ≡ true) (ib : isNumber b ≡ tr
       shuts (y ∷ v) q h four next = ends (y ∷ v) (complete (s .word)) refl h four (reads-end (y ∷ v) (s .word) (s .payload) (omega arith) q)
 
       go : (t : Bool) → isSeparator x ≡ t → length (s .head .numbers) ≡ 4 → Next
-          → later ≡ cut (wishOf (a ∷ b ∷ c ∷ d ∷ pick t (closed w ++ wordsFrom [] bs) (wordsFrom (w ++ (x ∷ [])) bs)))
+          → later ≡ cut (wishOf (a ∷ b ∷ c ∷ d ∷ cond t (closed w ++ wordsFrom [] bs) (wordsFrom (w ++ (x ∷ [])) bs)))
       go true h four next = shuts w r h four next
       go false h four next = next (w ++ (x ∷ [])) (rw (next-grows (s .word) x h) (reads-more w (s .word) (s .payload) x r))
 
@@ -207,35 +184,21 @@ first-spoiled word [] h p = rw (closed-one word h) p
 first-spoiled word (b ∷ bs) h p = go (isSeparator b) (first-spoiled (word ++ (b ∷ [])) bs (omega (arith, length-more word b)) (spoiled-more word b p))
   where
     go : (t : Bool) → isNumber (getD (wordsFrom (word ++ (b ∷ [])) bs) 0 []) ≡ false
-        → isNumber (getD (pick t (closed word ++ wordsFrom [] bs) (wordsFrom (word ++ (b ∷ [])) bs)) 0 []) ≡ false
+        → isNumber (getD (cond t (closed word ++ wordsFrom [] bs) (wordsFrom (word ++ (b ∷ [])) bs)) 0 []) ≡ false
     go true later = rw (closed-one word h) p
     go false later = later
 
 -- one of the first four words is no number
-module _ (a b c d w : List ℕ) where
-  no-first : isNumber a ≡ false → wishIn a b c d w ≡ bad
-  unfolding wishIn
-  no-first e = rw e
-
-  no-second : isNumber b ≡ false → wishIn a b c d w ≡ bad
-  unfolding wishIn isFlag
-  no-second e = rw e (none (isNumber a) refl)
-
-  no-third : isNumber c ≡ false → wishIn a b c d w ≡ bad
-  unfolding wishIn
-  no-third e = rw e (none (isNumber a) (none (isFlag b) refl))
-
-  no-fourth : isNumber d ≡ false → wishIn a b c d w ≡ bad
-  unfolding wishIn isFlag
-  no-fourth e = rw e (none (isNumber a) (none (isFlag b) (none (isNumber c) refl)))
+front-spoiled : (n : ℕ) (done : List (List ℕ)) (w : List ℕ) (ws : List (List ℕ)) → length done < n → isNumber w ≡ false → all isNumber (take n (done ++ (w ∷ ws))) ≡ false
+unfolding all
+front-spoiled zero done w ws h e = absurd (omega arith)
+front-spoiled (suc n) [] w ws h e = rw e
+front-spoiled (suc n) (a ∷ done) w ws h e = rw (front-spoiled n done w ws (omega arith) e) (and-false (isNumber a))
 
 number-spoils : (done ws : List (List ℕ)) → length done < 4 → isNumber (getD ws 0 []) ≡ false → wishOf (done ++ ws) ≡ bad
 unfolding wishOf
-number-spoils [] ws h e = none (eqb (length ws) 5) (no-first (getD ws 0 []) (getD ws 1 []) (getD ws 2 []) (getD ws 3 []) (getD ws 4 []) e)
-number-spoils (a ∷ []) ws h e = none (eqb (length (a ∷ ws)) 5) (no-second a (getD ws 0 []) (getD ws 1 []) (getD ws 2 []) (getD ws 3 []) e)
-number-spoils (a ∷ b ∷ []) ws h e = none (eqb (length (a ∷ b ∷ ws)) 5) (no-third a b (getD ws 0 []) (getD ws 1 []) (getD ws 2 []) e)
-number-spoils (a ∷ b ∷ c ∷ []) ws h e = none (eqb (length (a ∷ b ∷ c ∷ ws)) 5) (no-fourth a b c (getD ws 0 []) (getD ws 1 []) e)
-number-spoils (a ∷ b ∷ c ∷ d ∷ done) ws h e = absurd (omega arith)
+number-spoils done [] h e = short-words (done ++ []) (omega (arith, length-append {A = List ℕ} done []))
+number-spoils done (w ∷ ws) h e = check-same (eqb (length (done ++ (w ∷ ws))) 5) (rw (front-spoiled 4 done w ws h e))
 
 -- a number that can't be taken ends the taking
 stuck-from : (bs : List ℕ) (s : State) → s .head .refused ≡ true → length (s .head .numbers) < 4 → s .word ≡ Before → taken (run s bs) ≡ bad
@@ -248,21 +211,13 @@ stuck-from (b ∷ bs) s p h f =
 -- the four numbers are taken
 four-from : (done : List (List ℕ)) (bs : List ℕ) (s : State) → length done ≡ 4 → Stands (s .head) done [] → s .word ≡ Before → s .payload ≡ []
     → taken (run s bs) ≡ cut (wishOf (done ++ wordsFrom [] bs))
-unfolding values allNumbers fours
+unfolding fours
 four-from [] bs s n p f q = absurd (omega arith)
 four-from (a ∷ []) bs s n p f q = absurd (omega arith)
 four-from (a ∷ b ∷ []) bs s n p f q = absurd (omega arith)
 four-from (a ∷ b ∷ c ∷ []) bs s n p f q = absurd (omega arith)
 four-from (a ∷ b ∷ c ∷ d ∷ []) bs s n p f q =
-    let from-b = both-two (isNumber a) (both (isNumber b) (both (isNumber c) (both (isNumber d) true))) (p .good) in
-    let from-c = both-two (isNumber b) (both (isNumber c) (both (isNumber d) true)) from-b in
-    let from-d = both-two (isNumber c) (both (isNumber d) true) from-c in
-    payload-from a b c d
-    (both-one (isNumber a) _ (p .good))
-    (both-one (isNumber b) _ from-b)
-    (both-one (isNumber c) _ from-c)
-    (both-one (isNumber d) _ from-d)
-    bs s [] (p .held) (rw (f, q) (refl, refl))
+    payload-from a b c d (p .good) bs s [] (p .held) (rw (f, q) (refl, refl))
 four-from (a ∷ b ∷ c ∷ d ∷ w ∷ done) bs s n p f q = absurd (omega arith)
 
 -- the text from a state within the four numbers on
@@ -275,7 +230,7 @@ head-from (b ∷ bs) s done word p h f q =
     rw (step-head s b few) (go (isSeparator b) refl (λ ws w r k. head-from bs (headed s b) ws w r k refl refl))
   where
     few : length (s .head .numbers) < 4
-    few = rw (p .held, length-values done) h
+    few = rw (p .held, length-map done valueOf) h
 
     later : Wish
     later = taken (run (headed s b) bs)
@@ -288,7 +243,7 @@ head-from (b ∷ bs) s done word p h f q =
     there ws false e k r next = four-from ws bs (headed s b) (omega (arith, ltb-false (length ws) 4 e)) r refl refl
 
     go : (t : Bool) → isSeparator b ≡ t → Next
-        → later ≡ cut (wishOf (done ++ pick t (closed word ++ wordsFrom [] bs) (wordsFrom (word ++ (b ∷ [])) bs)))
+        → later ≡ cut (wishOf (done ++ cond t (closed word ++ wordsFrom [] bs) (wordsFrom (word ++ (b ∷ [])) bs)))
     go true e next =
         let is : head.step (s .head) b ≡ head.shut (s .head) = step-shuts (s .head) b (p .going) e in
         let long : length (done ++ closed word) ≤ 4 = omega (arith, length-append done (closed word), closed-short word) in

@@ -1,19 +1,17 @@
 -- A wish taken byte by byte. Nothing here is needed to say what a wish means: that is in Wish.
 -- Assumes nothing.
-use mathlib.Core.Bool.{Bool, true, false}
-use mathlib.Core.List.{List, [], _∷_, _++_}
+use mathlib.Core.Bool.{Bool, true, false, _&&_, cond}
+use mathlib.Core.List.{List, [], _∷_, _++_, foldl}
 use mathlib.Core.Path.{_≡_}
 use Prim.Native.Nat.{ℕ, _+_, _*_, _%_, _≤_}
-use lib.Dec.{leb, ltb, eqb}
+use lib.Dec.{ltb, eqb}
 use lib.ListN.{length, take, getD}
-use Rattle.bits.specs.Bit.{isSet}
-use Rattle.bits.specs.Pick.{pick, both, check}
+use Rattle.bits.specs.Check.{check}
 use Rattle.bits.specs.Tab.{tab}
 use Rattle.line.specs.declared.Outcome.{Outcome}
-use Rattle.lora.specs.declared.Settings.{Settings}
 use Rattle.text.specs.Text.{isSeparator}
 use Rattle.text.specs.Scan as head
-use Rattle.wish.specs.Wish.{isHex, hexValue, Wish, bad, wish, answerTo, outcomeTo}
+use Rattle.wish.specs.Wish.{isHex, hexValue, Wish, bad, wish, settingsOf, flagsHold, answerTo, outcomeTo}
 use Rattle.wish.specs.declared.Scan.{Scan}
 use Rattle.wish.specs.declared.Word.{Word}
 use Rattle.wish.specs.declared.Word.the-variants.{Before, Hyphen, Whole, Half, Closed, Bad}
@@ -39,19 +37,19 @@ shutWord Bad = Bad
 
 -- the value of a hex digit; 16 for any other byte
 abbrev pub digitOf : ℕ → ℕ
-digitOf b = pick (isHex b) (hexValue b) 16
+digitOf b = cond (isHex b) (hexValue b) 16
 
 -- a byte's upper digit
 abbrev pub opened : ℕ → Word
-opened b = pick (isHex b) (Half (hexValue b)) Bad
+opened b = cond (isHex b) (Half (hexValue b)) Bad
 
 -- its lower digit
 abbrev pub paired : ℕ → Word
-paired b = pick (isHex b) Whole Bad
+paired b = cond (isHex b) Whole Bad
 
 -- any other byte goes on with it
 abbrev pub grownWord : Word → ℕ → Word
-grownWord Before b = pick (eqb b 45) Hyphen (opened b)
+grownWord Before b = cond (eqb b 45) Hyphen (opened b)
 grownWord Hyphen b = Bad
 grownWord Whole b = opened b
 grownWord (Half high) b = paired b
@@ -59,7 +57,7 @@ grownWord Closed b = Bad
 grownWord Bad b = Bad
 
 unfoldable pub nextWord : Word → ℕ → Word
-nextWord word b = pick (isSeparator b) (shutWord word) (grownWord word b)
+nextWord word b = cond (isSeparator b) (shutWord word) (grownWord word b)
 
 -- the upper digit that stands open; 16 if none does
 abbrev pub highOf : Word → ℕ
@@ -72,7 +70,7 @@ highOf Bad = 16
 
 -- the payload's byte that a byte of the text is the end of, if any
 unfoldable pub added : Word → ℕ → List ℕ
-added word b = pick (both (ltb (highOf word) 16) (isHex b)) ((highOf word * 16 + hexValue b) ∷ []) []
+added word b = cond (ltb (highOf word) 16 && isHex b) ((highOf word * 16 + hexValue b) ∷ []) []
 
 -- four numbers, then the payload's word; of the payload 256 bytes are kept, which are too many
 unfoldable pub headed : State → ℕ → State
@@ -82,11 +80,10 @@ unfoldable pub worded : State → ℕ → State
 worded s b = record { head = s .head; word = nextWord (s .word) b; payload = take 256 (s .payload ++ added (s .word) b) }
 
 unfoldable pub step : State → ℕ → State
-step s b = pick (ltb (length (s .head .numbers)) 4) (headed s b) (worded s b)
+step s b = cond (ltb (length (s .head .numbers)) 4) (headed s b) (worded s b)
 
 unfoldable pub run : State → List ℕ → State
-run s [] = s
-run s (b ∷ bs) = run (step s b) bs
+run s bytes = foldl step s bytes
 
 -- whether the payload's word is a payload where it ends here
 abbrev pub complete : Word → Bool
@@ -97,20 +94,13 @@ complete (Half high) = false
 complete Closed = true
 complete Bad = false
 
--- the settings that four numbers say
-unfoldable pub settingsBy : List ℕ → Settings
-settingsBy numbers = record { sf = getD numbers 0 0; low = isSet (getD numbers 1 0); cr = getD numbers 2 0; checksum = isSet (getD numbers 3 0) }
-
-unfoldable pub flagsBy : List ℕ → Bool
-flagsBy numbers = both (leb (getD numbers 1 0) 1) (leb (getD numbers 3 0) 1)
-
 -- the wish that was taken, at its end
 unfoldable pub taken : State → Wish
 taken s =
     check (complete (s .word)) bad
     (check (eqb (length (s .head .numbers)) 4) bad
-    (check (flagsBy (s .head .numbers)) bad
-    (wish (settingsBy (s .head .numbers)) (s .payload))))
+    (check (flagsHold (s .head .numbers)) bad
+    (wish (settingsOf (s .head .numbers)) (s .payload))))
 
 -- what a text that ends in this state is answered, and how
 unfoldable pub lineAt : State → List ℕ

@@ -1,12 +1,12 @@
 -- The coding program's text: a wish for a frame, as a list of bytes, and the line that answers it.
 -- Assumes nothing.
-use mathlib.Core.Bool.{Bool, true, false}
-use mathlib.Core.List.{List, [], _∷_, _++_}
+use mathlib.Core.Bool.{Bool, false, _&&_, _||_, cond}
+use mathlib.Core.List.{List, [], _∷_, _++_, map, flatMap}
 use Prim.Native.Nat.{ℕ, _+_, _-_, _*_, _%_}
 use lib.Dec.{leb, eqb}
-use lib.ListN.{length, getD}
+use lib.ListN.{length, getD, take}
 use Rattle.bits.specs.Bit.{isSet, asBit}
-use Rattle.bits.specs.Pick.{pick, both, either, check}
+use Rattle.bits.specs.Check.{check}
 use Rattle.bits.specs.Tab.{tab}
 use Rattle.line.specs.Line.{decimal, field, lineOf}
 use Rattle.line.specs.declared.Outcome.{Outcome}
@@ -16,18 +16,14 @@ use Rattle.lora.specs.declared.Settings.{Settings}
 use Rattle.lora.specs.declared.Counted.{Counted}
 use Rattle.lora.specs.declared.Counted.the-variants.{Symbols, Refused}
 use Rattle.lora.specs.declared.Received.the-variants as received
-use Rattle.text.specs.Text.{isDigit, wordsFrom, isNumber, valueOf}
+use Rattle.text.specs.Text.{isDigit, all, wordsFrom, isNumber, valueOf}
 
 -- a hex digit of either case, and its value
 abbrev pub isHex : ℕ → Bool
-isHex b = either (isDigit b) (either (both (leb 65 b) (leb b 70)) (both (leb 97 b) (leb b 102)))
+isHex b = isDigit b || ((leb 65 b && leb b 70) || (leb 97 b && leb b 102))
 
 abbrev pub hexValue : ℕ → ℕ
-hexValue b = pick (leb b 57) (b - 48) (pick (leb b 70) (b - 55) (b - 87))
-
-unfoldable pub allHex : List ℕ → Bool
-allHex [] = true
-allHex (b ∷ bs) = both (isHex b) (allHex bs)
+hexValue b = cond (leb b 57) (b - 48) (cond (leb b 70) (b - 55) (b - 87))
 
 -- two digits a byte, the upper first
 unfoldable pub bytesOf : List ℕ → List ℕ
@@ -42,42 +38,35 @@ isHyphen (b ∷ []) = eqb b 45
 isHyphen (b ∷ c ∷ bs) = false
 
 unfoldable pub isPayload : List ℕ → Bool
-isPayload word = either (isHyphen word) (both (allHex word) (eqb (length word % 2) 0))
+isPayload word = isHyphen word || (all isHex word && eqb (length word % 2) 0)
 
 unfoldable pub payloadOf : List ℕ → List ℕ
-payloadOf word = pick (isHyphen word) [] (bytesOf word)
-
--- a number that is 0 or 1
-unfoldable pub isFlag : List ℕ → Bool
-isFlag word = both (isNumber word) (leb (valueOf word) 1)
+payloadOf word = cond (isHyphen word) [] (bytesOf word)
 
 -- what a text says: settings and a payload; or it can't be taken
 pub data Wish : Type 0 where
   bad : Wish
   wish : Settings → List ℕ → Wish
 
-unfoldable pub settingsOf : List ℕ → List ℕ → List ℕ → List ℕ → Settings
-settingsOf sf low cr flag = record { sf = valueOf sf; low = isSet (valueOf low); cr = valueOf cr; checksum = isSet (valueOf flag) }
+-- four numbers: SF, low rate (0 or 1), CR, checksum flag (0 or 1)
+unfoldable pub settingsOf : List ℕ → Settings
+settingsOf numbers = record { sf = getD numbers 0 0; low = isSet (getD numbers 1 0); cr = getD numbers 2 0; checked = isSet (getD numbers 3 0) }
 
-unfoldable pub wishIn : List ℕ → List ℕ → List ℕ → List ℕ → List ℕ → Wish
-wishIn sf low cr flag payload =
-    check (isNumber sf) bad
-    (check (isFlag low) bad
-    (check (isNumber cr) bad
-    (check (isFlag flag) bad
-    (check (isPayload payload) bad
-    (wish (settingsOf sf low cr flag) (payloadOf payload))))))
+unfoldable pub flagsHold : List ℕ → Bool
+flagsHold numbers = leb (getD numbers 1 0) 1 && leb (getD numbers 3 0) 1
 
--- five words: SF, low rate (0 or 1), CR, checksum flag (0 or 1), payload
+-- five words: the four numbers and the payload
 unfoldable pub wishOf : List (List ℕ) → Wish
 wishOf words =
     check (eqb (length words) 5) bad
-    (wishIn (getD words 0 []) (getD words 1 []) (getD words 2 []) (getD words 3 []) (getD words 4 []))
+    (check (all isNumber (take 4 words)) bad
+    (check (flagsHold (map valueOf (take 4 words))) bad
+    (check (isPayload (getD words 4 [])) bad
+    (wish (settingsOf (map valueOf (take 4 words))) (payloadOf (getD words 4 []))))))
 
 -- the numbers of a list, each after a space
-unfoldable pub fields : List ℕ → List ℕ
-fields [] = []
-fields (n ∷ ns) = field n ++ fields ns
+abbrev pub fields : List ℕ → List ℕ
+fields numbers = flatMap field numbers
 
 -- the line that the reading program takes: SF, low rate, symbols; byte 10 at the end
 unfoldable pub frameLine : Settings → List ℕ → List ℕ

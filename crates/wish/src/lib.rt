@@ -10,13 +10,16 @@ ghost use Rattle.line.specs.Put.{Put};
 ghost use Rattle.line.specs.declared.Outcome.the-variants.{Declined};
 ghost use Rattle.lora.specs.declared.Received.the-variants as received;
 ghost use Rattle.wish.specs.Answer.{isWish, narrow, sentLine, Fitted};
-ghost use Rattle.wish.specs.Scan.{Sane, Holds, Begun, Kept, step, worded, run, stateOf, nextWord, shutWord, grownWord, opened, paired, complete, highOf, digitOf, byteIn, settingsBy, lineAt, outcomeAt};
-ghost use Rattle.wish.specs.Wish.{wish, fields, frameLine, outcomeFor, answerTo, outcomeTo};
+ghost use Rattle.wish.specs.Scan.{Sane, Holds, Begun, Kept, step, worded, run, stateOf, nextWord, shutWord, grownWord, opened, paired, complete, highOf, digitOf, byteIn, lineAt, outcomeAt};
+ghost use Rattle.wish.specs.Wish.{wish, settingsOf, fields, frameLine, outcomeFor, answerTo, outcomeTo};
 use line::Answer;
 use line::Outcome;
 use lora::Counted;
 use lora::Received;
 use lora::Settings;
+
+// Room for the longest line of a frame, and more.
+pub const LINE: usize = 17600;
 
 // How far the payload's word was taken: not begun, a hyphen, whole bytes, a byte's upper digit behind whole bytes,
 // ended, or no payload.
@@ -246,17 +249,17 @@ fn is_wish(scan: Scan, numbers: &[u16]) -> bool
 // The settings that the four numbers say; an SF or a CR that fits no byte becomes 255, which is neither.
 fn settings_of(numbers: &[u16]) -> Settings
     requires { ⌜ 4 ≤ length (now numbers) ⌝ }
-    ensures { λ r. ⌜ r ≡ narrow (settingsBy (now (numbers .entry))) ⌝ }
+    ensures { λ r. ⌜ r ≡ narrow (settingsOf (now (numbers .entry))) ⌝ }
 {
     let sf = text::narrow(numbers[0]);
     let low = numbers[1] == 1;
     let cr = text::narrow(numbers[2]);
-    let checksum = numbers[3] == 1;
+    let checked = numbers[3] == 1;
     Settings {
         sf,
         low,
         cr,
-        checksum,
+        checked,
     }
 }
 
@@ -324,11 +327,11 @@ fn answer_with(s: Settings, counted: Counted, symbols: &[u16], out: &mut [u8]) -
 // Codes the wish that stands in the numbers, and writes its line.
 fn answer_wish(numbers: &[u16], bytes: usize, out: &mut [u8]) -> Answer
     requires { ⌜ (bytes ≤ 256) × (length (now numbers) ≡ 834) × (17600 ≤ length (now out)) ⌝ }
-    ensures { λ r. ⌜ Answered 17600 (answerTo (wish (settingsBy (now (numbers .entry))) (tab bytes (byteIn (now (numbers .entry)))))) (outcomeTo (wish (settingsBy (now (numbers .entry))) (tab bytes (byteIn (now (numbers .entry)))))) (now (out .entry)) (now (out .exit)) r ⌝ }
+    ensures { λ r. ⌜ Answered 17600 (answerTo (wish (settingsOf (now (numbers .entry))) (tab bytes (byteIn (now (numbers .entry)))))) (outcomeTo (wish (settingsOf (now (numbers .entry))) (tab bytes (byteIn (now (numbers .entry)))))) (now (out .entry)) (now (out .exit)) r ⌝ }
 {
     let s = settings_of(numbers);
     let payload = payload_of(numbers, bytes);
-    let mut symbols = [0u16; 832];
+    let mut symbols = [0u16; layout::MOST_SYMBOLS];
     let counted = lora::code(s, &payload[..bytes], &mut symbols);
     answer_with(s, counted, &symbols, out)
 }
@@ -340,7 +343,7 @@ pub fn answer(scan: Scan, numbers: &mut [u16], out: &mut [u8]) -> Answer
 {
     let bytes = scan.bytes;
     if !is_wish(scan, numbers) {
-        return decline(14, 0, out);
+        return decline(refusal::BAD_TEXT, 0, out);
     }
     answer_wish(numbers, bytes, out)
 }

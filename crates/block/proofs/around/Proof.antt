@@ -1,6 +1,7 @@
+-- Below n the place is itself; from n on, once round.
 use mathlib.Core.Path.{sym}
 use native.Mathlib.Nat.{mod-eq-of-lt}
-use Rattle.block.proofs.GridLoop.{once}
+use Rattle.bits.proofs.Turns.{once}
 use borrow.Author.Needs.{needs}
 use Rattle.block.proofs.around.Statement.{statement}
 use Rattle.block.proofs.around.Tie as tie

@@ -1,3 +1,4 @@
+-- Codeword i is the bits of row i, cut to the block's columns.
 use Rattle.block.proofs.GridLoop.{codeword-cut}
 use borrow.Author.Needs.{needs}
 use Rattle.block.proofs.codeword_of_grid.Statement.{statement}

@@ -1,3 +1,4 @@
+-- Two halves of four bits are the eight bits of a row.
 use native.Mathlib.Omega.{arith}
 use Rattle.bits.specs.Bit.{number}
 use borrow.Author.Needs.{needs}

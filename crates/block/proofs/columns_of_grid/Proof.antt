@@ -1,3 +1,4 @@
+-- Each column gains a bit at the bottom: a loop down from the last row.
 use mathlib.Core.Path.{_≡_, _∙_}
 use Prim.Native.Nat.{_≤_, _-_}
 use native.Mathlib.Omega.{arith}

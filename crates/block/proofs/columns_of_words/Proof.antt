@@ -1,3 +1,4 @@
+-- Column j is word j turned: a loop over the columns.
 use Prim.Native.Nat.{ℕ, _≤_, _-_}
 use native.Mathlib.Omega.{arith}
 use Rattle.bits.specs.Tab.{blank}
@@ -9,10 +10,10 @@ use Rattle.block.proofs.columns_of_words.Statement.{statement}
 use Rattle.block.proofs.columns_of_words.Tie as tie
 
 abbrev Inv-loop : tie.InvT-loop
-Inv-loop n columns words plain₀ j₀ plain j = (j ≤ columns) × Filled (columnOfWords n words) (blank 8 0) j plain
+Inv-loop n words plain₀ j₀ plain j = (j ≤ 8) × Filled (columnOfWords n words) (blank 8 0) j plain
 
 abbrev μ-loop : tie.MeasureT-loop
-μ-loop n columns words plain₀ j₀ plain j = columns - j
+μ-loop n words plain₀ j₀ plain j = 8 - j
 
 loop-holds : tie.Need-loop-holds Inv-loop μ-loop
 unfolding blank
@@ -46,7 +47,7 @@ loop-again : tie.Need-loop-again Inv-loop μ-loop
 loop-again c =
     let a = c .before .before .before .before .args in
     let l = c .before .before .before .loop in
-    (search needs, filled-more (l .inv .1) (omega (arith, length-blank {A = ℕ} 8 0)) (column-turned (a .n) (l .j) (a .t3) (c .before .around .ensures .0) (c .turned .ensures)))
+    (search needs, filled-more (l .inv .1) (omega (arith, length-blank {A = ℕ} 8 0)) (column-turned (a .n) (l .j) (a .t2) (c .before .around .ensures .0) (c .turned .ensures)))
 
 returns : tie.Need-returns Inv-loop μ-loop
 unfolding columnOfWords

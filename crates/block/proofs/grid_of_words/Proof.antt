@@ -1,3 +1,4 @@
+-- Row i is bit i of each column, none from row n on: a loop over all twelve rows.
 use mathlib.Core.Path.{ap, _∙_}
 use mathlib.Core.Bool.{false}
 use mathlib.Core.List.{[]}
@@ -13,10 +14,10 @@ use Rattle.block.proofs.grid_of_words.Statement.{statement}
 use Rattle.block.proofs.grid_of_words.Tie as tie
 
 abbrev Inv-loop : tie.InvT-loop
-Inv-loop n columns plain g₀ i₀ g i = (i ≤ 12) × Filled (rowOfColumns plain) (blank 12 (blank 8 false)) i g
+Inv-loop n plain g₀ i₀ g i = (i ≤ 12) × Filled (rowOfColumns plain) (blank 12 (blank 8 false)) i g
 
 abbrev μ-loop : tie.MeasureT-loop
-μ-loop n columns plain g₀ i₀ g i = 12 - i
+μ-loop n plain g₀ i₀ g i = 12 - i
 
 columns-of-words-requires : tie.Need-columns-of-words-requires Inv-loop μ-loop
 columns-of-words-requires c κs = search needs
@@ -48,7 +49,7 @@ loop-again c = (search needs, filled-more (c .before .before .before .before .lo
 
 returns : tie.Need-returns Inv-loop μ-loop
 returns c =
-    filled-end (c .before .loop .inv .1) (omega arith) ∙ rows-of-columns _ _ _ (omega arith) (omega arith) (c .before .before .columns-of-words .ensures)
+    filled-end (c .before .loop .inv .1) (omega arith) ∙ rows-of-columns _ _ (omega arith) (c .before .before .columns-of-words .ensures)
 
 pub grid-of-words-spec : {M : Type 1} → statement M
 grid-of-words-spec =

@@ -1,3 +1,4 @@
+-- The remainder by a power of two is the lowest bits, and fits a byte.
 use native.Mathlib.Nat.{mod-le}
 use native.Mathlib.Omega.{arith}
 use borrow.Author.Needs.{needs}

@@ -1,3 +1,4 @@
+-- The number, with and without the four-wide spacing.
 use Rattle.block.specs.Gray.{numberOfValue}
 use borrow.Author.Needs.{needs}
 use Rattle.block.proofs.number_of_value.Statement.{statement}

@@ -1,3 +1,4 @@
+-- Cell j is bit i of column j: a loop over the row's eight cells.
 use mathlib.Core.Path.{refl, sym, _∙_}
 use mathlib.Core.Bool.{false}
 use Prim.Native.Nat.{_≤_, _-_}

@@ -1,12 +1,9 @@
-use mathlib.Core.Path.{_∙_, sym}
+-- The word moved up and cut, and its upper part below it, are the word turned, which is small.
 use native.Mathlib.Omega.{arith}
-use Rattle.block.proofs.TurnLaws.{turned-by}
+use Rattle.block.proofs.GridLoop.{turned-by}
 use borrow.Author.Needs.{needs}
 use Rattle.block.proofs.turned.Statement.{statement}
 use Rattle.block.proofs.turned.Tie as tie
-
-sub-rest : tie.Need-sub-rest
-sub-rest c = search needs
 
 power-requires : tie.Need-power-requires
 power-requires c κs = search needs
@@ -14,51 +11,59 @@ power-requires c κs = search needs
 rem-low : tie.Need-rem-low
 rem-low c = search needs
 
-cast-high : tie.Need-cast-high
-cast-high c = search needs
+cast-up : tie.Need-cast-up
+cast-up c =
+    let (is, small, low, both) = turned-by (c .before .args .n) (c .before .args .s) (c .before .args .w) (omega arith) (omega arith) (c .power .ensures .0) in
+    search needs
 
-shr-high : tie.Need-shr-high
-shr-high c = search needs
+cast-up-2 : tie.Need-cast-up-2
+cast-up-2 c = search needs
 
-power-requires-2 : tie.Need-power-requires-2
-power-requires-2 c κs = search needs
+shl-up : tie.Need-shl-up
+shl-up c = search needs
 
-rem-high : tie.Need-rem-high
-rem-high c = search needs
+cast-up-3 : tie.Need-cast-up-3
+cast-up-3 c = search needs
 
-power-requires-3 : tie.Need-power-requires-3
-power-requires-3 c κs = search needs
+rem-up : tie.Need-rem-up
+rem-up c = search needs
 
-mul-result : tie.Need-mul-result
-mul-result c =
-    let a = c .before .before .before .args in
-    let (is, small) = turned-by (a .n) (a .s) (a .w) (omega arith) (omega arith) (c .before .before .power .ensures .0) (c .power3 .ensures .0) in
-    omega (arith, small)
+cast-result : tie.Need-cast-result
+cast-result c =
+    let (is, small, low, both) = turned-by (c .before .args .n) (c .before .args .s) (c .before .args .w) (omega arith) (omega arith) (c .power .ensures .0) in
+    search needs
+
+sub-result : tie.Need-sub-result
+sub-result c = search needs
+
+cast-result-2 : tie.Need-cast-result-2
+cast-result-2 c = search needs
+
+shr-result : tie.Need-shr-result
+shr-result c = search needs
 
 add-result : tie.Need-add-result
 add-result c =
-    let a = c .before .before .before .args in
-    let (is, small) = turned-by (a .n) (a .s) (a .w) (omega arith) (omega arith) (c .before .before .power .ensures .0) (c .power3 .ensures .0) in
-    rw (c .before .power2 .ensures .0 ∙ sym (c .power3 .ensures .0)) (omega (arith, small))
+    let (is, small, low, both) = turned-by (c .before .args .n) (c .before .args .s) (c .before .args .w) (omega arith) (omega arith) (c .power .ensures .0) in
+    search needs
 
 returns : tie.Need-returns
-returns c =
-    let a = c .before .before .before .args in
-    let (is, small) = turned-by (a .n) (a .s) (a .w) (omega arith) (omega arith) (c .before .before .power .ensures .0) (c .power3 .ensures .0) in
-    rw (c .before .power2 .ensures .0 ∙ sym (c .power3 .ensures .0)) is
+returns c = turned-by (c .before .args .n) (c .before .args .s) (c .before .args .w) (omega arith) (omega arith) (c .power .ensures .0) .0
 
 pub turned-spec : {M : Type 1} → statement M
 turned-spec =
     tie.close
     (tie.spec
-    sub-rest
     power-requires
     rem-low
-    cast-high
-    shr-high
-    power-requires-2
-    rem-high
-    power-requires-3
-    mul-result
+    cast-up
+    cast-up-2
+    shl-up
+    cast-up-3
+    rem-up
+    cast-result
+    sub-result
+    cast-result-2
+    shr-result
     add-result
     returns)

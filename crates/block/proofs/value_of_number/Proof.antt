@@ -1,3 +1,4 @@
+-- The value, with and without the four-wide spacing.
 use Rattle.block.specs.Gray.{valueOfNumber}
 use Rattle.block.proofs.value_of_number.Statement.{statement}
 use Rattle.block.proofs.value_of_number.Tie as tie

@@ -1,3 +1,4 @@
+-- Four shifts give the XOR of a bit and all above it.
 use native.Mathlib.Omega.{arith}
 use Rattle.block.proofs.GrayLoop.{folded, value-folded}
 use Rattle.block.proofs.value_of_word.Statement.{statement}

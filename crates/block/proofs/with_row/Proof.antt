@@ -1,3 +1,4 @@
+-- Column j gains the row's bit j: a loop over the eight columns.
 use mathlib.Core.Path.{refl}
 use mathlib.Core.Bool.{false}
 use Prim.Native.Nat.{ℕ, _≤_, _-_}

@@ -1,3 +1,4 @@
+-- A number's value, and the word of that value.
 use borrow.Author.Needs.{needs}
 use Rattle.block.specs.Block.{wordOfNumber}
 use Rattle.block.proofs.word_of_number.Statement.{statement}

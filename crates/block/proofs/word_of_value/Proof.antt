@@ -1,3 +1,4 @@
+-- The word is by its definition what is computed.
 use borrow.Author.Needs.{needs}
 use Rattle.block.specs.Gray.{wordOfValue}
 use Rattle.block.proofs.word_of_value.Statement.{statement}

@@ -1,9 +1,11 @@
+-- A byte after the other through the table; the table is compared with the definition by computing it.
 use Prim.Native.Nat.{_≤_, _-_}
 use mathlib.Core.Path.{_≡_, refl, sym, _∙_}
 use lib.ListN.{length, drop}
 use Rattle.bits.specs.Bit.{bit}
 use Rattle.bits.specs.Tab.{tab}
-use Rattle.checksum.specs.Checksum.{divisor, reduced, oneBit, lowBits, oneByte, entry, remainder, checksum}
+use Rattle.checksum.specs.Checksum.{divisor, reduced, oneBit, lowBits, oneByte, remainder, checksum}
+use Rattle.checksum.specs.Table.{entry}
 use Rattle.checksum.proofs.ChecksumLaws.{remainder-more, remainder-end}
 use borrow.Author.Needs.{needs}
 use Rattle.checksum.proofs.checksum.Statement.{statement}
@@ -32,8 +34,14 @@ loop-less : tie.Need-loop-less Inv-loop μ-loop
 loop-less c = search needs
 
 loop-again : tie.Need-loop-again Inv-loop μ-loop
-loop-again c = let now = c .before .before .before .before .loop in
-    (now .inv .0, search needs, search needs, now .inv .3 ∙ remainder-more (c .before .before .before .before .before .before .args .payload .now) (now .i) _ (search needs) (c .one-byte .ensures))
+loop-again c =
+    let turn = c .before .before .before .before in
+    let payload = turn .before .before .args .payload .now in (
+      turn .loop .inv .0,
+      search needs,
+      search needs,
+      turn .loop .inv .3 ∙ remainder-more payload (turn .loop .i) _ (search needs) (c .one-byte .ensures),
+    )
 
 returns : tie.Need-returns Inv-loop μ-loop
 returns c = sym (c .before .loop .inv .3 ∙ remainder-end (c .before .before .before .args .payload .now) (c .before .loop .i) _ (search needs))

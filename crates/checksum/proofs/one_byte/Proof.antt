@@ -1,8 +1,9 @@
+-- A byte more by the table.
 use Prim.Native.Nat.{ℕ, _+_, _*_, _/_, _%_}
 use mathlib.Core.Path.{sym, ap, _∙_}
 use lib.Bits.{bitXor}
 use Rattle.bits.proofs.Tabs.{getD-tab}
-use Rattle.checksum.specs.Checksum.{entry}
+use Rattle.checksum.specs.Table.{entry}
 use Rattle.checksum.proofs.ChecksumLaws.{oneByte-table}
 use borrow.Author.Needs.{needs}
 use Rattle.checksum.proofs.one_byte.Statement.{statement}

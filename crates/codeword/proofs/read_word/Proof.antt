@@ -1,98 +1,86 @@
--- `read_word` meets its contract: the table has the flips in a line for each rate, and a word read by its flip is read as the definition says.
+-- The entry at the word's place says what the word is read as: taken, repaired or unreadable.
 -- Assumes nothing.
-use mathlib.Core.Path.{_≡_, _∙_}
+use mathlib.Core.Path.{_≡_, ap, _∙_}
+use Prim.Native.Nat.{ℕ, _+_, _-_, _/_, _%_, _^_}
 use mathlib.Core.List.{[]}
-use Prim.Native.Nat.{ℕ, _<_}
-use borrow.Author.Needs.{needs}
+use native.Mathlib.Omega.{arith}
 use lib.ListN.{getD}
-use Rattle.bits.specs.Bit.{bit, number}
-use Rattle.bits.specs.Search.{first, howMany}
-use Rattle.bits.specs.Tab.{tab}
-use Rattle.codeword.specs.Codeword.{parity, parityOfAll, parityBit, codewordBit, codeword, apart, nibbleAway, repairOf, readAs}
-use Rattle.codeword.proofs.Lookup.{lines, getD-lines, flip, mendOf, wrongOf, wrong-is, wrong-lt, read-taken, read-mended, read-refused}
+use borrow.Author.Needs.{needs}
+use Rattle.codeword.specs.Readings.{readingOf}
+use Rattle.codeword.proofs.Lookup.{placeOf, power-le, place-lt, entry-is, read-taken, read-repaired, read-unreadable}
 use Rattle.codeword.proofs.read_word.Statement.{statement}
 use Rattle.codeword.proofs.read_word.Tie as tie
-use Rattle.codeword.proofs.read_word.Reads as reads
-use Rattle.codeword.proofs.read_word.Lts as lts
-use Rattle.bits.proofs.wide.Reads as wide-reads
-use Rattle.codeword.proofs.parities.Reads as parities-reads
 
-parities-requires : tie.Need-parities-requires
-parities-requires c κs = search needs
+-- the beginning, from where the place is known
+abbrev begin : tie.After-wide2 → tie.Start
+begin c = c .before .before .before .before
 
-sub-wide : tie.Need-sub-wide
-sub-wide c = search needs
+-- the power of two, as it is counted with
+power : (c : tie.After-wide16) → c .wide16 .result ≡ 2 ^ (4 + c .before .before .before .args .cr)
+power c = c .wide16 .ensures ∙ c .before .power .ensures .0 ∙ ap (λ (k : ℕ). 2 ^ (4 + k)) (c .before .before .wide .ensures)
+
+place : (c : tie.After-wide2) → c .before .wide16 .result - 32 + c .wide2 .result ≡ placeOf (begin c .args .cr) (begin c .args .w)
+unfolding placeOf
+place c = ap (λ (k : ℕ). k - 32 + c .wide2 .result) (power (c .before)) ∙ ap (λ (k : ℕ). 2 ^ (4 + begin c .args .cr) - 32 + k) (c .wide2 .ensures)
+
+-- the entry there is the number of what the word is read as
+entry : (c : tie.After-wide2) → let k = c .before .wide16 .result - 32 + c .wide2 .result in let a = begin c .args in
+    getD (getD (a .readings .now) (k / 8) []) (k % 8) 0 ≡ readingOf (a .cr) (a .w)
+entry c = let (table, rate, word) = begin c .pre in entry-is rate word (place c) table
 
 wide-requires : tie.Need-wide-requires
 wide-requires c κs = search needs
 
+add-power : tie.Need-add-power
+add-power c = search needs
+
+power-requires : tie.Need-power-requires
+power-requires c κs = search needs
+
+wide16-requires : tie.Need-wide16-requires
+wide16-requires c κs = search needs
+
+sub-place : tie.Need-sub-place
+sub-place c = rw (power c) (power-le (c .before .before .before .pre .1))
+
 wide-requires-2 : tie.Need-wide-requires-2
 wide-requires-2 c κs = search needs
 
-mul-mend : tie.Need-mul-mend
-mul-mend c = search needs
+add-place : tie.Need-add-place
+add-place c = search needs
 
-index-1-mend : tie.Need-index-1-mend
-index-1-mend c = search needs
+mul-entry : tie.Need-mul-entry
+mul-entry c = search needs
 
--- what is known once the place in the table is
-abbrev Here : Type 0
-Here = lts.After-wide2 (parities-reads.Asked, parities-reads.Learnt, wide-reads.Asked, wide-reads.Learnt) reads.Pre reads.Post
+index-1-entry : tie.Need-index-1-entry
+index-1-entry c = let (table, rate, word) = begin c .pre in omega (arith, place-lt rate word (place c))
 
-module _ (c : Here) where
-  abbrev wrong : ℕ
-  wrong = wrongOf (c .before .before .before .args .cr) (c .before .before .before .args .w)
-
-  -- the place is what is wrong with the word
-  place : c .wide2 .result ≡ wrong
-  place = c .wide2 .ensures ∙ wrong-is _ _ _ (c .before .before .parities .ensures)
-
-  place-lt : wrong < 16
-  place-lt =
-      let (rate, word) = c .before .before .before .pre in
-      wrong-lt _ _ rate word
-
-  -- what is read there is its flip
-  mend : getD (getD (lines mendOf) (c .before .wide .result) []) (c .wide2 .result) 0 ≡ mendOf (c .before .before .before .args .cr) wrong
-  mend =
-      let (rate, word) = c .before .before .before .pre in
-      getD-lines mendOf _ _ _ _ rate place-lt (c .before .wide .ensures) place
-
-index-2-mend : tie.Need-index-2-mend
-index-2-mend c = rw (place c) (place-lt c)
+index-2-entry : tie.Need-index-2-entry
+index-2-entry c = search needs
 
 returns : tie.Need-returns
-unfolding lines tab flip mendOf readAs repairOf nibbleAway first apart howMany codeword codewordBit parityBit parityOfAll parity bit number
-returns c =
-    let here = c .before .before in
-    let (rate, word) = here .before .before .before .pre in
-    read-taken _ _ _ _ rate word (wrong-is _ _ _ (here .before .before .parities .ensures)) (mend here) (c .if1 .taken)
+returns c = read-taken _ _ (entry (c .before .before)) (c .if1 .taken)
 
 returns-2 : tie.Need-returns-2
-unfolding lines tab flip mendOf readAs repairOf nibbleAway first apart howMany codeword codewordBit parityBit parityOfAll parity bit number
-returns-2 c =
-    let here = c .before .before .before in
-    let (rate, word) = here .before .before .before .pre in
-    read-mended _ _ _ _ rate word (wrong-is _ _ _ (here .before .before .parities .ensures)) (mend here) (c .before .if1 .left) (c .if2 .taken)
+returns-2 c = read-repaired _ _ (entry (c .before .before .before)) (c .before .if1 .left) (c .if2 .taken)
 
 returns-3 : tie.Need-returns-3
-unfolding lines tab flip mendOf readAs repairOf nibbleAway first apart howMany codeword codewordBit parityBit parityOfAll parity bit number
-returns-3 c =
-    let here = c .before .before .before in
-    let (rate, word) = here .before .before .before .pre in
-    read-refused _ _ _ _ rate word (wrong-is _ _ _ (here .before .before .parities .ensures)) (mend here) (c .before .if1 .left) (c .if2 .left)
+returns-3 c = read-unreadable _ _ (entry (c .before .before .before)) (c .if2 .left)
 
 pub read-word-spec : {M : Type 1} → statement M
 read-word-spec =
     tie.close
     (tie.spec
-    parities-requires
-    sub-wide
     wide-requires
+    add-power
+    power-requires
+    wide16-requires
+    sub-place
     wide-requires-2
-    mul-mend
-    index-1-mend
-    index-2-mend
+    add-place
+    mul-entry
+    index-1-entry
+    index-2-entry
     returns
     returns-2
     returns-3)

@@ -1,3 +1,4 @@
+-- Row i is the row of the code of nibble i, and blank outside the block: a loop over the 12 rows.
 use mathlib.Core.Path.{refl}
 use mathlib.Core.Bool.{false}
 use mathlib.Core.List.{[]}
@@ -14,10 +15,10 @@ use Rattle.coding.proofs.grid_of_block.Statement.{statement}
 use Rattle.coding.proofs.grid_of_block.Tie as tie
 
 abbrev Inv-loop : tie.InvT-loop
-Inv-loop rows nibbles line base n g₀ i₀ g i = (i ≤ 12) × Filled (rowFrom line base n nibbles) (blank 12 (blank 8 false)) i g
+Inv-loop rows nibbles line first n g₀ i₀ g i = (i ≤ 12) × Filled (rowFrom line first n nibbles) (blank 12 (blank 8 false)) i g
 
 abbrev μ-loop : tie.MeasureT-loop
-μ-loop rows nibbles line base n g₀ i₀ g i = 12 - i
+μ-loop rows nibbles line first n g₀ i₀ g i = 12 - i
 
 wide-requires : tie.Need-wide-requires Inv-loop μ-loop
 wide-requires c κs = search needs
@@ -75,9 +76,9 @@ loop-again c =
     let s = c .before .before .before .before in
     let room : l .i < length (blank 12 (blank 8 false)) = omega (arith, length-blank 12 (blank 8 false)) in (
       search needs,
-      ⊎-elim (λ w. rw (w .4) (filled-more (l .inv .1) room (row-read _ (s .args .b .base) (s .args .b .rows) _ (l .i) (s .pre .2) (w .0 .taken) (w .2 .ensures)
+      ⊎-elim (λ w. rw (w .4) (filled-more (l .inv .1) room (row-read _ (s .args .b .codeword) (s .args .b .rows) _ (l .i) (s .pre .2) (w .0 .taken) (w .2 .ensures)
           (few record { before = record { before = record { before = c .before; if1 = w .0 }; wide-arg = w .1 }; wide2 = w .2 }))))
-          (λ w. rw (w .1) (filled-skip [] (l .inv .1) room (row-blank _ (s .args .b .base) (s .args .b .rows) _ (l .i) (w .0 .left) (omega arith)))) (c .if1 .came),
+          (λ w. rw (w .1) (filled-skip [] (l .inv .1) room (row-blank _ (s .args .b .codeword) (s .args .b .rows) _ (l .i) (w .0 .left) (omega arith)))) (c .if1 .came),
     )
 
 returns : tie.Need-returns Inv-loop μ-loop

@@ -1,3 +1,4 @@
+-- The two halves of a byte, the low one first.
 use native.Mathlib.Omega.{arith}
 use Rattle.coding.proofs.NibbleLaws.{two-nibbles}
 use borrow.Author.Needs.{needs}

@@ -1,3 +1,4 @@
+-- The low byte and the high byte, one behind the other.
 use mathlib.Core.Path.{ap, _∙_}
 use native.Mathlib.Omega.{arith}
 use lib.ListN.{length}
@@ -27,7 +28,7 @@ put-byte-requires-2 c κs =
 returns : tie.Need-returns
 returns c =
     let a = c .before .before .before .before .args in
-    checksum-put (a .sum) (a .at) _ (omega arith) (c .before .before .put-byte .ensures) (c .put-byte2 .ensures)
+    checksum-put (a .checksum) (a .at) _ (omega arith) (c .before .before .put-byte .ensures) (c .put-byte2 .ensures)
 
 pub put-checksum-spec : {M : Type 1} → statement M
 put-checksum-spec =

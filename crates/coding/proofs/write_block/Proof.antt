@@ -1,7 +1,8 @@
+-- Symbol j is made of word j of the grid: a loop over the columns.
 use Prim.Native.Nat.{_≤_, _-_}
 use native.Mathlib.Omega.{arith}
-use Rattle.bits.proofs.Fill.{FilledAt, filledAt-none, filledAt-more}
-use Rattle.coding.proofs.CodingLoop.{symbolFrom, symbol-made, value-small, word-small, symbol-of-words, filledAt-as}
+use Rattle.bits.proofs.Fill.{FilledAt, filledAt-none, filledAt-more, filledAt-as}
+use Rattle.coding.proofs.CodingLoop.{symbolFrom, symbol-made, value-small, word-small, symbol-of-words}
 use borrow.Author.Needs.{needs}
 use Rattle.coding.proofs.write_block.Statement.{statement}
 use Rattle.coding.proofs.write_block.Tie as tie
@@ -31,7 +32,7 @@ array-read-value-of-word : tie.Need-array-read-value-of-word Inv-loop μ-loop
 array-read-value-of-word c = search needs
 
 value-of-word-requires : tie.Need-value-of-word-requires Inv-loop μ-loop
-value-of-word-requires c κs = (search needs, word-small _ _ _ (c .before .loop .j) (c .before .before .words-of-grid .ensures) (omega arith))
+value-of-word-requires c κs = (search needs, word-small _ _ (c .before .loop .j) (c .before .before .words-of-grid .ensures) (omega arith))
 
 number-of-value-requires : tie.Need-number-of-value-requires Inv-loop μ-loop
 number-of-value-requires c κs = value-small _ _ (search needs) (c .value-of-word .ensures)
@@ -59,7 +60,7 @@ same-length c = search needs
 
 returns : tie.Need-returns Inv-loop μ-loop
 returns c = filledAt-as (c .before .loop .inv .1) (omega arith)
-    (λ i h. symbol-of-words (c .before .before .before .before .before .args .b) _ _ i (c .before .before .words-of-grid .ensures) (omega arith))
+    (λ i h. symbol-of-words (c .before .before .before .before .before .args .b) _ i (c .before .before .words-of-grid .ensures) (omega arith))
 
 pub write-block-spec : {M : Type 1} → statement M
 write-block-spec =

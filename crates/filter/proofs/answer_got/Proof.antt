@@ -3,6 +3,7 @@
 use mathlib.Core.Path.{refl}
 use lib.Seq.{length-take-le}
 use Rattle.lines.proofs.StreamLaws.{stands-here}
+use Rattle.filter.proofs.TurnLaws.{follows-chunk}
 use borrow.Author.Needs.{needs}
 use Rattle.filter.proofs.answer_got.Statement.{statement}
 use Rattle.filter.proofs.answer_got.Tie as tie
@@ -11,7 +12,10 @@ enum-known-got : tie.Need-enum-known-got
 enum-known-got c = search needs
 
 slice-aggregate-answer-chunk : tie.Need-slice-aggregate-answer-chunk
-slice-aggregate-answer-chunk c = let h = rw (c .before .before .got .given .1) at (c .before .before .before .before .before .before .before .pre .0) in search (needs, length-take-le)
+slice-aggregate-answer-chunk c =
+    let match = c .before .before in
+    let h = rw (match .got .given .1) at (match .before .before .before .before .before .pre .0) in
+    search (needs, length-take-le)
 
 answer-chunk-requires : tie.Need-answer-chunk-requires
 answer-chunk-requires c κs = search needs
@@ -29,15 +33,19 @@ same-length-2 : tie.Need-same-length-2
 same-length-2 c = search needs
 
 returns : tie.Need-returns
-returns c = rw (c .before .before .before .before .before .before .before .before .before .got .given .1) (record { is = c .before .before .before .before .answer-chunk .ensures })
+returns c =
+    let taken = c .before .before .before .before in
+    let match = taken .before .before .before .before .before in
+    let a = match .before .before .before .before .before .args in
+    rw (match .got .given .1) (follows-chunk (taken .answer-chunk .result) _ (a .progress) _ _ _ (taken .answer-chunk .ensures))
 
 returns-2 : tie.Need-returns-2
 returns-2 c =
-    let a = c .before .before .before .before .before .args in
-    rw (c .enum-told .given .1) (record { is = (refl, stands-here (a .day) (a .numbers .now) (c .before .before .before .before .before .pre .1)) })
+    let start = c .before .before .before .before .before in
+    (c .enum-told .given .1, refl, stands-here (start .args .progress) (start .args .numbers .now) (start .pre .1))
 
 returns-3 : tie.Need-returns-3
-returns-3 c = rw (c .before .before .got2 .given .1) (record { is = refl })
+returns-3 c = (c .before .before .got2 .given .1, refl)
 
 pub answer-got-spec : {M : Type 1} → statement M
 answer-got-spec =

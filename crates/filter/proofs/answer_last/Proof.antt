@@ -1,6 +1,8 @@
 -- `answer_last` answers the last piece and hands the line over.
 -- Assumes nothing.
-use Rattle.filter.proofs.TurnLaws.{put-used, counts-are}
+use mathlib.Core.Path.{ap}
+use native.Mathlib.Omega.{arith}
+use Rattle.lines.specs.Stream.{Point, pointOf}
 use borrow.Author.Needs.{needs}
 use Rattle.filter.proofs.answer_last.Statement.{statement}
 use Rattle.filter.proofs.answer_last.Tie as tie
@@ -8,8 +10,10 @@ use Rattle.filter.proofs.answer_last.Tie as tie
 finish-requires : tie.Need-finish-requires
 finish-requires c κs = search needs
 
-send-requires : tie.Need-send-requires
-send-requires c κs = put-used (c .before .before .before .before .before .before .before .finish .ensures .1)
+write-first-requires : tie.Need-write-first-requires
+write-first-requires c κs =
+    let p = c .before .before .before .before .before .before .before .finish .ensures .1 in
+    omega (arith, p .next, p .within, p .long)
 
 same-length : tie.Need-same-length
 same-length c = search needs
@@ -18,8 +22,11 @@ same-length-2 : tie.Need-same-length-2
 same-length-2 c = search needs
 
 returns : tie.Need-returns
-returns c = let f = c .before .before .before .before .before .before .before .before .finish .ensures in (counts-are (f .0), f .1, c .send .ensures)
+unfolding pointOf
+returns c =
+    let f = c .before .before .before .before .before .before .before .before .finish .ensures in
+    (ap (λ (p : Point). p .counts) (f .0 .is), f .1, c .write-first .ensures)
 
 pub answer-last-spec : {M : Type 1} → statement M
 answer-last-spec =
-    tie.close (tie.spec finish-requires send-requires same-length same-length-2 returns)
+    tie.close (tie.spec finish-requires write-first-requires same-length same-length-2 returns)

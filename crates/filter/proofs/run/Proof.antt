@@ -14,7 +14,7 @@ slice-aggregate-take-all-3 : tie.Need-slice-aggregate-take-all-3
 slice-aggregate-take-all-3 c = search needs
 
 take-all-requires : tie.Need-take-all-requires
-take-all-requires c κs = (c .before .before .before .pre _ (search needs), search needs)
+take-all-requires c κs = (c .before .before .before .pre .sane _ (search needs), search needs)
 
 enum-told : tie.Need-enum-told
 enum-told c = search needs
@@ -30,8 +30,8 @@ slice-aggregate-finish-2 c = search needs
 
 finish-requires : tie.Need-finish-requires
 finish-requires c κs =
-    let kept = c .before .before .before .before .before .before .before .before .take-all .kept in
-    ((rw (c .before .before .before .turn .given .1) at (c .before .before .before .before .before .before .before .before .take-all .ensures)) .1 .sane, search needs)
+    let taken = c .before .before .before .before .before .before .before .before .take-all in
+    ((rw (c .before .before .before .turn .given .1) at (taken .ensures)) .1 .sane, rw (taken .kept .1 .1 .1 .0) (search needs))
 
 enum-known-turn-2 : tie.Need-enum-known-turn-2
 enum-known-turn-2 c = search needs

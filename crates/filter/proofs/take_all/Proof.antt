@@ -1,13 +1,12 @@
 -- `take_all` takes an input whole, or breaks off.
 -- Assumes nothing.
-use mathlib.Core.List.{List, [], _++_}
-use mathlib.Core.Path.{_≡_}
+use mathlib.Core.List.{List, []}
+use mathlib.Core.Path.{_≡_, _∙_}
 use Prim.Native.Nat.{ℕ, _≤_}
 use lib.ListN.{length}
 use Rattle.lines.specs.Stream.{run, pointOf, Stands}
 use Rattle.lines.proofs.StreamLaws.{stands-here}
-use Rattle.system.specs.Calls.{chunkOf}
-use Rattle.filter.proofs.TurnLaws.{stands-none, stands-on, stands-same, follows-more, follows-ended}
+use Rattle.filter.proofs.TurnLaws.{stands-on}
 use borrow.Author.Needs.{needs}
 use Rattle.filter.proofs.take_all.Statement.{statement}
 use Rattle.filter.proofs.take_all.Tie as tie
@@ -21,9 +20,10 @@ abbrev μ-loop : tie.MeasureT-loop
 μ-loop buffer₀ numbers₀ out₀ so-far₀ turns₀ buffer numbers out so-far turns = turns
 
 loop-holds : tie.Need-loop-holds Inv-loop μ-loop
+unfolding run
 loop-holds c =
-    let a = c .before .before .before .args in
-    (([], stands-none (stands-here (a .day) (a .numbers .now) (c .before .before .before .pre .0))), search needs, search needs, search needs, search needs)
+    let start = c .before .before .before in
+    (([], stands-here (start .args .progress) (start .args .numbers .now) (start .pre .0)), search needs, search needs, search needs, search needs)
 
 sub-turns : tie.Need-sub-turns Inv-loop μ-loop
 sub-turns c = search needs
@@ -32,7 +32,10 @@ read-some-requires : tie.Need-read-some-requires Inv-loop μ-loop
 read-some-requires c κs = search needs
 
 answer-got-requires : tie.Need-answer-got-requires Inv-loop μ-loop
-answer-got-requires c κs = let i = c .before .before .before .before .before .before .before .before .loop .inv in (c .before .before .before .before .before .read-some .ensures, i .0 .1 .sane, i .1)
+answer-got-requires c κs =
+    let read = c .before .before .before .before .before in
+    let i = read .before .before .before .loop .inv in
+    (read .read-some .ensures, i .0 .1 .sane, i .1)
 
 enum-known-turn : tie.Need-enum-known-turn Inv-loop μ-loop
 enum-known-turn c = search needs
@@ -42,13 +45,13 @@ loop-less c = search needs
 
 loop-again : tie.Need-loop-again Inv-loop μ-loop
 loop-again c =
-    let a = c .before .before .before .before .before .before .before .before .before .before .before .before .before .before .before .before .before .before .before .before .args in
-    let i = c .before .before .before .before .before .before .before .before .before .before .before .before .before .before .before .before .loop .inv in
-    let got = c .before .before .before .before .before .before .before .before .before .before .before .before .before .read-some .result in
-    let more = follows-more got (c .before .before .before .before .before .before .before .answer-got .ensures) (c .before .turn .given .1) in
-    let kept = c .before .before .before .before .before .before .before .answer-got .kept in
-    let read = c .before .before .before .before .before .before .before .before .before .before .before .before .before .read-some .kept in
-    ((i .0 .0 ++ chunkOf got _, stands-on (pointOf (a .day) (a .numbers .now)) (i .0 .0) (chunkOf got _) (i .0 .1) more), search needs, search needs, search needs, search needs)
+    let took = c .before .before .before .before .before .before .before in
+    let read = took .before .before .before .before .before .before in
+    let loop = read .before .before .before in
+    let a = loop .before .before .before .before .args in
+    let i = loop .loop .inv in
+    let more = rw (c .before .turn .given .1) at (took .answer-got .ensures) in
+    ((_, stands-on (pointOf (a .progress) (a .numbers .now)) (i .0 .0) _ (i .0 .1) (more .2)), search needs, search needs, search needs, search needs)
 
 enum-known-turn-2 : tie.Need-enum-known-turn-2 Inv-loop μ-loop
 enum-known-turn-2 c = search needs
@@ -64,8 +67,10 @@ same-length-3 c = search needs
 
 returns : tie.Need-returns Inv-loop μ-loop
 returns c =
-    let i = c .before .before .before .before .before .before .before .before .before .before .before .before .before .before .before .before .loop .inv in
-    (i .0 .0, stands-same (i .0 .1) (follows-ended (c .before .before .before .before .before .before .before .before .before .before .before .before .before .read-some .result) (c .before .before .before .before .before .before .before .answer-got .ensures) (c .before .turn2 .given .1)))
+    let took = c .before .before .before .before .before .before .before in
+    let held = took .before .before .before .before .before .before .before .before .before .loop .inv .0 in
+    let end = rw (c .before .turn2 .given .1) at (took .answer-got .ensures) in
+    (held .0, record { sane = end .2 .sane; is = end .2 .is ∙ held .1 .is })
 
 enum-known-turn-3 : tie.Need-enum-known-turn-3 Inv-loop μ-loop
 enum-known-turn-3 c = search needs

@@ -1,3 +1,4 @@
+-- A shift is a division by a power of two.
 use Rattle.bits.specs.Bit.{bit}
 use mathlib.Core.Path.{refl}
 use native.Mathlib.Nat.{mod-lt, zero-lt-suc}

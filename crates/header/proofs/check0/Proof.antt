@@ -1,8 +1,18 @@
-use Rattle.header.specs.Header.{c0}
-use native.Mathlib.Nat.{mod-lt, zero-lt-suc}
+-- The sum c0 is that of the seven bits read, one by one: a wrong bit leaves an equation that is false.
+use mathlib.Core.Path.{_≡_}
+use Prim.Native.Nat.{ℕ, _+_, _%_}
 use borrow.Author.Needs.{needs}
 use Rattle.header.proofs.check0.Statement.{statement}
 use Rattle.header.proofs.check0.Tie as tie
+
+-- equal bits have equal sums
+same : {p q r s t u v p' q' r' s' t' u' v' : ℕ} → p ≡ p' → q ≡ q' → r ≡ r' → s ≡ s' → t ≡ t' → u ≡ u' → v ≡ v'
+    → (p + q + r + s + t + u + v) % 2 ≡ (p' + q' + r' + s' + t' + u' + v') % 2
+same a b c d e f g = cc
+
+-- where the first four of the seven bits have been read
+abbrev four : tie.After-bit7 → tie.After-bit4
+four c = c .before .before .before
 
 bit-requires : tie.Need-bit-requires
 bit-requires c κs = search needs
@@ -44,8 +54,15 @@ add-result-6 : tie.Need-add-result-6
 add-result-6 c = search needs
 
 returns : tie.Need-returns
-unfolding c0
-returns c = (rw (c .before .before .before .before .before .before .bit .ensures .0, c .before .before .before .before .before .bit2 .ensures .0, c .before .before .before .before .bit3 .ensures .0, c .before .before .before .bit4 .ensures .0, c .before .before .bit5 .ensures .0, c .before .bit6 .ensures .0, c .bit7 .ensures .0), mod-lt _ (zero-lt-suc 1))
+returns c =
+    same
+    (four c .before .before .before .bit .ensures .0)
+    (four c .before .before .bit2 .ensures .0)
+    (four c .before .bit3 .ensures .0)
+    (four c .bit4 .ensures .0)
+    (c .before .before .bit5 .ensures .0)
+    (c .before .bit6 .ensures .0)
+    (c .bit7 .ensures .0)
 
 pub check0-spec : {M : Type 1} → statement M
 check0-spec =

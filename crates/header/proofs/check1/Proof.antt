@@ -1,5 +1,4 @@
-use Rattle.header.specs.Header.{c1}
-use native.Mathlib.Nat.{mod-lt, zero-lt-suc}
+-- The sum c1 is that of the six bits read.
 use borrow.Author.Needs.{needs}
 use Rattle.header.proofs.check1.Statement.{statement}
 use Rattle.header.proofs.check1.Tie as tie
@@ -38,8 +37,7 @@ add-result-5 : tie.Need-add-result-5
 add-result-5 c = search needs
 
 returns : tie.Need-returns
-unfolding c1
-returns c = (rw (c .before .before .before .before .before .bit .ensures .0, c .before .before .before .before .bit2 .ensures .0, c .before .before .before .bit3 .ensures .0, c .before .before .bit4 .ensures .0, c .before .bit5 .ensures .0, c .bit6 .ensures .0), mod-lt _ (zero-lt-suc 1))
+returns c = cc
 
 pub check1-spec : {M : Type 1} → statement M
 check1-spec =

@@ -1,5 +1,4 @@
-use Rattle.header.specs.Header.{c3}
-use native.Mathlib.Nat.{mod-lt, zero-lt-suc}
+-- The sum c3 is that of the five bits read.
 use borrow.Author.Needs.{needs}
 use Rattle.header.proofs.check3.Statement.{statement}
 use Rattle.header.proofs.check3.Tie as tie
@@ -32,8 +31,7 @@ add-result-4 : tie.Need-add-result-4
 add-result-4 c = search needs
 
 returns : tie.Need-returns
-unfolding c3
-returns c = (rw (c .before .before .before .before .bit .ensures .0, c .before .before .before .bit2 .ensures .0, c .before .before .bit3 .ensures .0, c .before .bit4 .ensures .0, c .bit5 .ensures .0), mod-lt _ (zero-lt-suc 1))
+returns c = cc
 
 pub check3-spec : {M : Type 1} → statement M
 check3-spec =

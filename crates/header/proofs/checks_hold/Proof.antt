@@ -1,4 +1,4 @@
-use Rattle.header.specs.Header.{checksHold, c4}
+-- Both comparisons, the second only where the first holds.
 use borrow.Author.Tests.{eq-eqb, ne-eqb}
 use borrow.Author.Needs.{needs}
 use Rattle.header.proofs.checks_hold.Statement.{statement}
@@ -16,10 +16,6 @@ array-read-check4 c = search needs
 check4-requires : tie.Need-check4-requires
 check4-requires c κs = search needs
 
-returns : tie.Need-returns
-unfolding checksHold c4
-returns c = rw (ne-eqb _ _ (rw (c .before .before .bit .ensures .0, c .before .check4 .ensures) at (c .if1 .taken)))
-
 array-read-result : tie.Need-array-read-result
 array-read-result c = search needs
 
@@ -35,9 +31,11 @@ array-read-low-checks-3 c = search needs
 low-checks-requires : tie.Need-low-checks-requires
 low-checks-requires c κs = search needs
 
+returns : tie.Need-returns
+returns c = rw (c .low-checks .ensures, ← c .before .before .before .bit .ensures .0, ← c .before .before .check4 .ensures, eq-eqb _ _ (c .before .if1 .taken))
+
 returns-2 : tie.Need-returns-2
-unfolding checksHold c4
-returns-2 c = rw (c .low-checks .ensures, eq-eqb _ _ (rw (c .before .before .before .bit .ensures .0, c .before .before .check4 .ensures) at (c .before .if1 .left)))
+returns-2 c = rw (← c .before .before .bit .ensures .0, ← c .before .check4 .ensures, ne-eqb _ _ (c .if1 .left))
 
 pub checks-hold-spec : {M : Type 1} → statement M
 checks-hold-spec =
@@ -47,10 +45,10 @@ checks-hold-spec =
     bit-requires
     array-read-check4
     check4-requires
-    returns
     array-read-result
     array-read-low-checks
     array-read-low-checks-2
     array-read-low-checks-3
     low-checks-requires
+    returns
     returns-2)

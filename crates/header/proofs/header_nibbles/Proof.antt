@@ -1,4 +1,5 @@
-use Rattle.header.specs.Header.{headerNibbles, withChecks, c4}
+-- The five nibbles are those of the three calls, and length and CR leave room for them.
+use Rattle.header.specs.Header.{headerNibbles, withChecks}
 use borrow.Author.Needs.{needs}
 use Rattle.header.proofs.header_nibbles.Statement.{statement}
 use Rattle.header.proofs.header_nibbles.Tie as tie
@@ -19,8 +20,8 @@ low-checks-requires : tie.Need-low-checks-requires
 low-checks-requires c κs = search needs
 
 returns : tie.Need-returns
-unfolding headerNibbles withChecks c4
-returns c = rw (c .low-checks .ensures, c .before .check4 .ensures, c .before .before .third .ensures)
+unfolding headerNibbles withChecks
+returns c = cc
 
 pub header-nibbles-spec : {M : Type 1} → statement M
 header-nibbles-spec =

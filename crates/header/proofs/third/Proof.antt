@@ -1,3 +1,4 @@
+-- The flag adds its bit: by cases on the flag.
 use borrow.Author.Needs.{needs}
 use Rattle.header.proofs.third.Statement.{statement}
 use Rattle.header.proofs.third.Tie as tie

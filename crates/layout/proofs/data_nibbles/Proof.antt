@@ -1,3 +1,4 @@
+-- Two nibbles a byte, and four of the checksum.
 use Rattle.layout.specs.Layout.{dataNibbles}
 use native.Mathlib.Nat.{add-zero}
 use borrow.Author.Needs.{needs}

@@ -1,3 +1,4 @@
+-- The nibbles that remain after block 0, divided by the rows of a block and rounded up.
 use native.Mathlib.Omega.{arith}
 use Prim.Native.Nat.{_-_}
 use mathlib.Core.Path.{sym}
@@ -20,16 +21,16 @@ sub-result : tie.Need-sub-result
 sub-result c = search needs
 
 sub-result-2 : tie.Need-sub-result-2
-sub-result-2 c = omega (arith, c .before .rows-of-later .ensures, rows-range _ (c .before .before .before .args .low) (c .before .before .before .pre .0) (c .before .before .before .pre .1))
+sub-result-2 c = omega (arith, c .before .rows-of-later .ensures, rows-range _ (c .before .before .before .pre .0))
 
 add-result : tie.Need-add-result
-add-result c = omega (arith, c .before .rows-of-later .ensures, rows-range _ (c .before .before .before .args .low) (c .before .before .before .pre .0) (c .before .before .before .pre .1))
+add-result c = omega (arith, c .before .rows-of-later .ensures, rows-range _ (c .before .before .before .pre .0))
 
 div-result : tie.Need-div-result
-div-result c = omega (arith, c .before .rows-of-later .ensures, rows-range _ (c .before .before .before .args .low) (c .before .before .before .pre .0) (c .before .before .before .pre .1))
+div-result c = omega (arith, c .before .rows-of-later .ensures, rows-range _ (c .before .before .before .pre .0))
 
 returns : tie.Need-returns
-returns c = sym (no-later _ _ _ (c .before .before .before .pre .0) (c .before .before .before .pre .1) (omega arith))
+returns c = sym (no-later _ _ (c .before .before .before .pre .0) (omega arith))
 
 returns-2 : tie.Need-returns-2
 unfolding laterBlocks remaining rowsOfFirst

@@ -1,3 +1,4 @@
+-- SF rows, or two fewer at low rate.
 use Rattle.layout.specs.Layout.{rowsOfLater}
 use borrow.Author.Needs.{needs}
 use Rattle.layout.proofs.rows_of_later.Statement.{statement}

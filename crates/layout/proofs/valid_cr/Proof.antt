@@ -1,3 +1,4 @@
+-- 1 to 4.
 use borrow.Author.Tests.{lt-leb, le-leb}
 use Rattle.layout.specs.Layout.{validCr}
 use Rattle.layout.proofs.valid_cr.Statement.{statement}

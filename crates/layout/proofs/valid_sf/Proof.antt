@@ -1,3 +1,4 @@
+-- 7 to 12.
 use borrow.Author.Tests.{lt-leb, le-leb}
 use Rattle.layout.specs.Layout.{validSf}
 use Rattle.layout.proofs.valid_sf.Statement.{statement}

@@ -12,10 +12,10 @@ enum-told : tie.Need-enum-told
 enum-told c = search needs
 
 returns : tie.Need-returns
-returns c = rw (c .before .before .answer .given .1, eq-eqb _ _ (c .if1 .taken))
+returns c = rw (c .before .before .before .answer .given .1, eq-eqb _ _ (c .if1 .taken))
 
 returns-2 : tie.Need-returns-2
-returns-2 c = rw (c .before .before .answer .given .1, ne-eqb _ _ (c .if1 .left))
+returns-2 c = rw (c .before .before .before .answer .given .1, ne-eqb _ _ (c .if1 .left))
 
 returns-3 : tie.Need-returns-3
 returns-3 c = search needs

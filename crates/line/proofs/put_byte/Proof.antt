@@ -1,6 +1,6 @@
 -- `put_byte` writes the two digits of a byte, the upper first.
 -- Assumes nothing.
-use Rattle.line.specs.Line.{hex}
+use Rattle.line.specs.Line.{hexByte}
 use Rattle.line.proofs.Puts.{put-on}
 use borrow.Author.Needs.{needs}
 use Rattle.line.proofs.put_byte.Statement.{statement}
@@ -22,7 +22,7 @@ same-length : tie.Need-same-length
 same-length c = search needs
 
 returns : tie.Need-returns
-unfolding hex
+unfolding hexByte
 returns c =
     let second = c .before .before in
     let first = second .before .before .before .before .before in

@@ -5,10 +5,12 @@ use lib.Seq.{take-all, length-take-le}
 use Prim.Native.Nat.{_≤_, _-_}
 use mathlib.Core.Path.{_≡_}
 use lib.ListN.{length, take}
-use Rattle.line.specs.Line.{hex}
+use mathlib.Core.List.{flatMap}
+use Rattle.bits.proofs.Lists.{flatMap-more}
+use Rattle.line.specs.Line.{hexByte, hex}
 use Rattle.line.specs.Put.{Put}
 use Rattle.line.proofs.Puts.{put-on, put-none}
-use Rattle.line.proofs.LineLaws.{hex-more, hex-length}
+use Rattle.line.proofs.LineLaws.{hex-length}
 use borrow.Author.Needs.{needs}
 use Rattle.line.proofs.put_hex.Statement.{statement}
 use Rattle.line.proofs.put_hex.Tie as tie
@@ -19,8 +21,12 @@ Inv-loop out₀ at payload next₀ i₀ i-end out next i = (i-end ≡ length pay
 abbrev μ-loop : tie.MeasureT-loop
 μ-loop out₀ at payload next₀ i₀ i-end out next i = i-end - i
 
+-- the loop's turn that a byte was put in
+abbrev turn : tie.After-put-byte Inv-loop μ-loop → tie.At-loop Inv-loop μ-loop
+turn c = c .before .before .before .before
+
 loop-holds : tie.Need-loop-holds Inv-loop μ-loop
-unfolding hex
+unfolding flatMap
 loop-holds c = (search needs, search needs, put-none _ _ (search needs))
 
 shared-slice-read-put-byte : tie.Need-shared-slice-read-put-byte Inv-loop μ-loop
@@ -41,10 +47,10 @@ loop-less c = search needs
 
 loop-again : tie.Need-loop-again Inv-loop μ-loop
 loop-again c =
-    let now = c .before .before .before .before .before .before in (
+    let now = turn (c .before .before) in (
       search needs,
       search needs,
-      rw (← hex-more (now .before .before .before .args .payload .now) (now .loop .i) (search needs)) (put-on (now .loop .inv .2) (c .before .before .put-byte .ensures)),
+      rw (← flatMap-more hexByte (now .before .before .before .args .payload .now) (now .loop .i) 0 (search needs)) (put-on (now .loop .inv .2) (c .before .before .put-byte .ensures)),
     )
 
 same-length : tie.Need-same-length Inv-loop μ-loop

@@ -7,6 +7,28 @@ use borrow.Author.Needs.{needs}
 use Rattle.line.proofs.write_line.Statement.{statement}
 use Rattle.line.proofs.write_line.Tie as tie
 
+-- the steps of an accepted answer before its repairs, and the start
+record Steps : Type 0 where
+  word : tie.After-put-word
+  length : tie.After-put-field
+  cr : tie.After-put-field2
+  flag : tie.After-put-field3
+  symbols : tie.After-put-field4
+
+abbrev steps : tie.After-put-field5 → Steps
+steps c =
+    let symbols = c .before .before .before .before in
+    let flag = symbols .before .before .before .before in
+    let cr = flag .before .before .before .before .before in
+    let length = cr .before .before .before .before .before in
+    record { word = length .before .before .before .before; length = length; cr = cr; flag = flag; symbols = symbols }
+
+abbrev start : tie.After-put-word → tie.Start
+start c = c .before .before .before .before .before .before .before
+
+abbrev start-2 : tie.After-put-word2 → tie.Start
+start-2 c = c .before .before .before .before .before .before .before
+
 enum-known-answer : tie.Need-enum-known-answer
 enum-known-answer c = search needs
 
@@ -36,13 +58,8 @@ put-field-requires-5 c κs = search needs
 
 put-payload-requires : tie.Need-put-payload-requires
 put-payload-requires c κs =
-    omega (
-      arith,
-      c .before .before .before .before .before .before .before .before .before .before .before .before .before .before .before .before .before .before .before .before .before .put-field .ensures .0,
-      c .before .before .before .before .before .before .before .before .before .before .before .before .before .before .before .before .before .before .before .before .before .put-field .ensures .1,
-      c .before .before .before .before .before .before .before .before .before .before .before .before .before .before .before .before .before .before .before .before .before .before .before .before .before .put-word .ensures,
-      c .before .before .before .before .before .before .before .before .before .before .before .before .before .before .before .before .before .before .before .before .before .before .before .before .before .before .before .before .before .before .before .before .pre,
-    )
+    let s = steps (c .before .before .before) in
+    omega (arith, s .length .put-field .ensures .0, s .length .put-field .ensures .1, s .word .put-word .ensures, start (s .word) .pre)
 
 enum-known-answer-2 : tie.Need-enum-known-answer-2
 enum-known-answer-2 c = search needs
@@ -69,18 +86,14 @@ returns : tie.Need-returns
 returns c =
     let end = c .before .before in
     let repairs = end .before .before .before .before in
-    let symbols = repairs .before .before .before .before in
-    let flag = symbols .before .before .before .before in
-    let cr = flag .before .before .before .before .before in
-    let length = cr .before .before .before .before .before in
-    let word = length .before .before .before .before in
-    rw (payload-line (word .before .before .before .before .before .before .before .args .payload .now) (word .before .before .before .answer .given .1) (cr .before .wide .ensures) (flag .before .flag .ensures))
+    let s = steps repairs in
+    rw (payload-line (start (s .word) .args .payload .now) (s .word .before .before .before .answer .given .1) (s .cr .before .wide .ensures) (s .flag .before .flag .ensures))
     (put-all
-    (put-on (word .put-word .ensures)
-    (put-on (length .put-field .ensures .0)
-    (put-on (cr .put-field2 .ensures .0)
-    (put-on (flag .put-field3 .ensures .0)
-    (put-on (symbols .put-field4 .ensures .0)
+    (put-on (s .word .put-word .ensures)
+    (put-on (s .length .put-field .ensures .0)
+    (put-on (s .cr .put-field2 .ensures .0)
+    (put-on (s .flag .put-field3 .ensures .0)
+    (put-on (s .symbols .put-field4 .ensures .0)
     (put-on (repairs .put-field5 .ensures .0)
     (end .put-payload .ensures))))))))
 
@@ -93,7 +106,7 @@ returns-2 c =
     let place = end .before .before .before .before in
     let number = place .before .before .before .before in
     let word = number .before .before .before .before .before in
-    rw (refused-line (word .before .before .before .before .before .before .before .args .payload .now) (word .before .before .before .answer2 .given .1) (number .before .wide2 .ensures))
+    rw (refused-line (start-2 word .args .payload .now) (word .before .before .before .answer2 .given .1) (number .before .wide2 .ensures))
     (put-all
     (put-on (word .put-word2 .ensures)
     (put-on (number .put-field6 .ensures .0)

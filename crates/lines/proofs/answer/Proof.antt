@@ -9,13 +9,19 @@ enum-known-piece : tie.Need-enum-known-piece
 enum-known-piece c = search needs
 
 answer-requires : tie.Need-answer-requires
-answer-requires c κs = (rw (c .before .before .before .piece .given .1) at (c .before .before .before .before .before .before .before .pre .0), omega (arith, c .before .before .before .before .before .before .before .pre .1))
+answer-requires c κs =
+    let match = c .before .before .before in
+    let pre = match .before .before .before .before .pre in
+    (rw (match .piece .given .1) at (pre .0), omega (arith, pre .1))
 
 enum-known-piece-2 : tie.Need-enum-known-piece-2
 enum-known-piece-2 c = search needs
 
 answer-requires-2 : tie.Need-answer-requires-2
-answer-requires-2 c κs = (rw (c .before .before .before .piece2 .given .1) at (c .before .before .before .before .before .before .before .pre .0), c .before .before .before .before .before .before .before .pre .1)
+answer-requires-2 c κs =
+    let match = c .before .before .before in
+    let pre = match .before .before .before .before .pre in
+    (rw (match .piece2 .given .1) at (pre .0), pre .1)
 
 same-length : tie.Need-same-length
 same-length c = search needs
@@ -24,8 +30,10 @@ same-length-2 : tie.Need-same-length-2
 same-length-2 c = search needs
 
 returns : tie.Need-returns
-returns c = let e = c .before .before .before .before .answer .ensures in
-    rw (c .before .before .before .before .before .before .before .before .piece .given .1) (record { long = e .long; short = omega (arith, e .short); cells = e .cells; is = e .is })
+returns c =
+    let answered = c .before .before .before .before in
+    let e = answered .answer .ensures in
+    rw (answered .before .before .before .before .piece .given .1) (record { long = e .long; short = omega (arith, e .short); cells = e .cells; is = e .is })
 
 same-length-3 : tie.Need-same-length-3
 same-length-3 c = search needs
@@ -34,7 +42,7 @@ same-length-4 : tie.Need-same-length-4
 same-length-4 c = search needs
 
 returns-2 : tie.Need-returns-2
-returns-2 c = rw (c .before .before .before .before .before .before .before .before .piece2 .given .1) (c .before .before .before .before .answer2 .ensures)
+returns-2 c = let answered = c .before .before .before .before in rw (answered .before .before .before .before .piece2 .given .1) (answered .answer2 .ensures)
 
 pub answer-spec : {M : Type 1} → statement M
 answer-spec =

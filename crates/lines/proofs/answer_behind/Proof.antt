@@ -25,7 +25,11 @@ same-length-2 : tie.Need-same-length-2
 same-length-2 c = search needs
 
 returns : tie.Need-returns
-returns c = let e = c .before .before .before .before .answer .ensures in (put-part (omega (arith, e .long, e .short, c .before .before .before .before .before .before .before .before .before .pre .1)) (e .long) (e .cells), e .short, e .is)
+returns c =
+    let answered = c .before .before .before .before in
+    let pre = answered .before .before .before .before .before .pre in
+    let e = answered .answer .ensures in
+    (put-part (omega (arith, e .long, e .short, pre .1)) (e .long) (e .cells), e .short, e .is)
 
 pub answer-behind-spec : {M : Type 1} → statement M
 answer-behind-spec =

@@ -25,11 +25,14 @@ same-length-2 c = search needs
 
 returns : tie.Need-returns
 returns c =
-    let a = c .before .before .before .before .before .before .before .before .before .before .before .before .before .args in
-    let e = c .before .before .before .before .before .before .before .answer-behind .ensures in
-    let long = sane-long (a .day .piece) (a .numbers .now) (c .before .before .before .before .before .before .before .before .before .before .before .before .before .pre .0) in
-    let kept = c .before .before .before .before .before .before .before .answer-behind .kept in
-    (stands-next (a .day) (a .numbers .now) (c .before .before .anew .ensures (a .numbers .now) _ (search needs)) (c .before .count-in .ensures) (e .2), e .0)
+    let made = c .before .before in
+    let answered = made .before .before .before .before .before in
+    let start = answered .before .before .before .before .before .before in
+    let a = start .args in
+    let e = answered .answer-behind .ensures in
+    let long = sane-long (a .progress .piece) (a .numbers .now) (start .pre .0) in
+    let kept = answered .answer-behind .kept in
+    (stands-next (a .progress) (a .numbers .now) (made .anew .ensures (a .numbers .now) _ (search needs)) (c .before .count-in .ensures) (e .2), e .0)
 
 pub close-piece-spec : {M : Type 1} → statement M
 close-piece-spec =

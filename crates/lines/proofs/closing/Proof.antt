@@ -36,12 +36,20 @@ same-length c = search needs
 returns : tie.Need-returns
 unfolding closingLine
 returns c =
-    put-on (put-on (put-on (c .before .before .before .before .before .before .before .before .before .before .before .before .before .before .before .before .before .before .before .before .before .before .before .before .before .before .before .before .before .before .put .ensures) (c .before .before .before .before .before .before .before .before .before .before .before .before .before .before .before .before .before .before .before .before .before .before .before .before .before .before .put2 .ensures)) (c .before .before .before .before .before .before .before .before .before .before .before .before .before .before .before .before .before .before .before .before .before .before .put3 .ensures))
-    (put-on (c .before .before .before .before .before .before .before .before .before .before .before .before .before .before .before .before .before .before .put-field .ensures .0)
-    (put-on (c .before .before .before .before .before .before .before .before .before .before .before .before .before .before .put-field2 .ensures .0)
-    (put-on (c .before .before .before .before .before .before .before .before .before .before .put-field3 .ensures .0)
-    (put-on (c .before .before .before .before .before .before .put-field4 .ensures .0)
-    (c .before .before .put4 .ensures)))))
+    let end = c .before .before in
+    let refused = end .before .before .before .before in
+    let repaired = refused .before .before .before .before in
+    let clean = repaired .before .before .before .before in
+    let texts = clean .before .before .before .before in
+    let d = texts .before .before .before .before in
+    let n = d .before .before .before .before in
+    let e = n .before .before .before .before in
+    put-on (put-on (put-on (e .put .ensures) (n .put2 .ensures)) (d .put3 .ensures))
+    (put-on (texts .put-field .ensures .0)
+    (put-on (clean .put-field2 .ensures .0)
+    (put-on (repaired .put-field3 .ensures .0)
+    (put-on (refused .put-field4 .ensures .0)
+    (end .put4 .ensures)))))
 
 pub closing-spec : {M : Type 1} → statement M
 closing-spec =

@@ -10,13 +10,13 @@ enum-known-piece : tie.Need-enum-known-piece
 enum-known-piece c = search needs
 
 feed-requires : tie.Need-feed-requires
-feed-requires c κs = rw (c .before .before .piece .given .1) at (c .before .before .before .before .before .before .pre)
+feed-requires c κs = let match = c .before .before in rw (match .piece .given .1) at (match .before .before .before .before .pre)
 
 enum-known-piece-2 : tie.Need-enum-known-piece-2
 enum-known-piece-2 c = search needs
 
 feed-requires-2 : tie.Need-feed-requires-2
-feed-requires-2 c κs = rw (c .before .before .piece2 .given .1) at (c .before .before .before .before .before .before .pre)
+feed-requires-2 c κs = let match = c .before .before in rw (match .piece2 .given .1) at (match .before .before .before .before .pre)
 
 same-length : tie.Need-same-length
 same-length c = search needs

@@ -1,7 +1,8 @@
 -- `finish` answers a last piece that is not empty.
 -- Assumes nothing.
 use Rattle.line.proofs.Puts.{put-none}
-use Rattle.lines.proofs.StreamLaws.{stands-here, ended-begun, last-begun, ended-empty, last-empty}
+use mathlib.Core.Bool.{true, false}
+use Rattle.lines.proofs.StreamLaws.{stands-here, at-end}
 use borrow.Author.Needs.{needs}
 use Rattle.lines.proofs.finish.Statement.{statement}
 use Rattle.lines.proofs.finish.Tie as tie
@@ -17,16 +18,18 @@ same-length-2 c = search needs
 
 returns : tie.Need-returns
 returns c =
-    let a = c .before .before .before .before .before .before .before .before .before .before .args in
-    let e = c .before .before .before .before .close-piece .ensures in
-    let b = c .before .before .before .before .before .before .before .if1 .taken in
-    (rw (ended-begun (a .day) (a .numbers .now) b) (e .0), rw (last-begun (a .day) (a .numbers .now) b) (e .1))
+    let closed = c .before .before .before .before in
+    let test = closed .before .before .before in
+    let a = test .before .before .before .args in
+    let e = at-end (a .progress) (a .numbers .now) true (test .if1 .taken) in
+    (rw (e .0) (closed .close-piece .ensures .0), rw (e .1) (closed .close-piece .ensures .1))
 
 returns-2 : tie.Need-returns-2
 returns-2 c =
-    let a = c .before .before .before .args in
-    let b = c .if1 .left in
-    (rw (ended-empty (a .day) (a .numbers .now) b) (stands-here (a .day) (a .numbers .now) (c .before .before .before .pre .0)), rw (last-empty (a .day) (a .numbers .now) b) (put-none 0 (a .out .now) (search needs)))
+    let start = c .before .before .before in
+    let a = start .args in
+    let e = at-end (a .progress) (a .numbers .now) false (c .if1 .left) in
+    (rw (e .0) (stands-here (a .progress) (a .numbers .now) (start .pre .0)), rw (e .1) (put-none 0 (a .out .now) (search needs)))
 
 pub finish-spec : {M : Type 1} → statement M
 finish-spec = tie.close (tie.spec close-piece-requires same-length same-length-2 returns returns-2)

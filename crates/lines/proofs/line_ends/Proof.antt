@@ -3,9 +3,9 @@
 use mathlib.Core.Path.{_≡_}
 use native.Mathlib.Omega.{arith}
 use Prim.Native.Nat.{_≤_, _-_}
-use lib.ListN.{length, getD}
+use lib.ListN.{length}
 use Rattle.lines.specs.Stream.{lineEnds}
-use Rattle.lines.proofs.Parts.{ends-none, ends-more, end-small}
+use Rattle.lines.proofs.Parts.{ends-none, ends-more}
 use borrow.Author.Needs.{needs}
 use Rattle.lines.proofs.line_ends.Statement.{statement}
 use Rattle.lines.proofs.line_ends.Tie as tie
@@ -26,7 +26,7 @@ ends-line-requires : tie.Need-ends-line-requires Inv-loop μ-loop
 ends-line-requires c κs = search needs
 
 add-ends : tie.Need-add-ends Inv-loop μ-loop
-add-ends c = let s = end-small (getD (c .before .before .before .before .before .args .out .now) (c .before .before .before .loop .i) 0) (c .ends-line .ensures) in search needs
+add-ends c = search needs
 
 add-i : tie.Need-add-i Inv-loop μ-loop
 add-i c = search needs
@@ -37,8 +37,8 @@ loop-less c = search needs
 loop-again : tie.Need-loop-again Inv-loop μ-loop
 loop-again c =
     let l = c .before .before .before .loop in
-    let s = end-small (getD (c .before .before .before .before .before .args .out .now) (l .i) 0) (c .ends-line .ensures) in
-    (search needs, search needs, ends-more (c .before .before .before .before .before .args .out .now) (l .i) (l .inv .2) (c .ends-line .ensures), search needs)
+    let out = c .before .before .before .before .before .args .out .now in
+    (search needs, search needs, ends-more out (l .i) (l .inv .2) (c .ends-line .ensures .0), search needs)
 
 returns : tie.Need-returns Inv-loop μ-loop
 returns c =

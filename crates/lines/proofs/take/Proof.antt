@@ -12,7 +12,7 @@ use Rattle.lines.proofs.take.Tie as tie
 
 abbrev Inv-loop : tie.InvT-loop
 Inv-loop chunk at numbers₀ out₀ last step₀ numbers out step =
-    Went (pointOf (step₀ .day) numbers₀) chunk (step₀ .at) (step .at) (step₀ .used) (step .used) (step .day) numbers out₀ out
+    Went (pointOf (step₀ .progress) numbers₀) chunk (step₀ .at) (step .at) (step₀ .used) (step .used) (step .progress) numbers out₀ out
     × (length numbers ≡ length numbers₀) × (length out ≡ length out₀) × (last + 17600 ≤ length out)
 
 abbrev μ-loop : tie.MeasureT-loop
@@ -26,8 +26,10 @@ take-piece-requires c κs = search needs
 
 loop-holds : tie.Need-loop-holds Inv-loop μ-loop
 loop-holds c =
-    let e = c .before .before .before .before .take-piece .ensures .0 in
-    (went-none _ _ _ _ _ _ (e .stands .sane) (e .within) (omega (arith, e .put .next, e .put .within, e .put .long)), search needs, search needs, omega (arith, e .put .long, c .before .before .before .before .before .before .before .before .before .before .pre))
+    let taken = c .before .before .before .before in
+    let e = taken .take-piece .ensures .0 in
+    let pre = taken .before .before .before .before .before .before .pre in
+    (went-none _ _ _ _ _ _ (e .stands .sane) (e .within) (omega (arith, e .put .next, e .put .within, e .put .long)), search needs, search needs, omega (arith, e .put .long, pre))
 
 same-length : tie.Need-same-length Inv-loop μ-loop
 same-length c = search needs
@@ -37,23 +39,29 @@ same-length-2 c = search needs
 
 returns : tie.Need-returns Inv-loop μ-loop
 returns c =
-    let e = c .before .before .before .before .before .before .before .before .before .take-piece .ensures in
-    let i = c .before .before .before .before .loop .inv in
+    let loop = c .before .before .before .before in
+    let e = loop .before .before .before .before .before .take-piece .ensures in
+    let i = loop .loop .inv in
     (went-on (e .0) (i .0), omega (arith, e .1, i .0 .forth))
 
 take-piece-requires-2 : tie.Need-take-piece-requires-2 Inv-loop μ-loop
 take-piece-requires-2 c κs =
-    let i = c .before .before .before .before .before .before .loop .inv in
-    (i .0 .stands .sane, c .before .before .before .before .if1 .taken, omega (arith, i .3, c .before .before .if2 .left))
+    let test = c .before .before .before .before in
+    let i = test .before .before .loop .inv in
+    (i .0 .stands .sane, test .if1 .taken, omega (arith, i .3, c .before .before .if2 .left))
 
 loop-less : tie.Need-loop-less Inv-loop μ-loop
-loop-less c = let e = c .before .before .before .before .take-piece2 .ensures in omega (arith, e .1, e .0 .within, c .before .before .before .before .before .before .before .before .before .if1 .taken)
+loop-less c =
+    let taken = c .before .before .before .before in
+    let e = taken .take-piece2 .ensures in
+    omega (arith, e .1, e .0 .within, taken .before .before .before .before .before .if1 .taken)
 
 loop-again : tie.Need-loop-again Inv-loop μ-loop
 loop-again c =
-    let e = c .before .before .before .before .take-piece2 .ensures in
-    let i = c .before .before .before .before .before .before .before .before .before .before .before .loop .inv in
-    let kept = c .before .before .before .before .take-piece2 .kept in
+    let taken = c .before .before .before .before in
+    let e = taken .take-piece2 .ensures in
+    let i = taken .before .before .before .before .before .before .before .loop .inv in
+    let kept = taken .take-piece2 .kept in
     (went-on (i .0) (e .0), search needs, omega (arith, e .0 .put .long, i .2), omega (arith, e .0 .put .long, i .3))
 
 same-length-3 : tie.Need-same-length-3 Inv-loop μ-loop
@@ -64,8 +72,9 @@ same-length-4 c = search needs
 
 returns-2 : tie.Need-returns-2 Inv-loop μ-loop
 returns-2 c =
-    let e = c .before .before .before .before .before .before .before .take-piece .ensures in
-    let i = c .before .before .loop .inv in
+    let loop = c .before .before in
+    let e = loop .before .before .before .before .before .take-piece .ensures in
+    let i = loop .loop .inv in
     (went-on (e .0) (i .0), omega (arith, e .1, i .0 .forth))
 
 pub take-spec : {M : Type 1} → statement M

@@ -1,6 +1,6 @@
 -- `take_part` feeds the bytes to the open piece.
 -- Assumes nothing.
-use Rattle.lines.proofs.StreamLaws.{took-part}
+use Rattle.lines.proofs.StreamLaws.{stands-fed}
 use borrow.Author.Needs.{needs}
 use Rattle.lines.proofs.take_part.Statement.{statement}
 use Rattle.lines.proofs.take_part.Tie as tie
@@ -21,7 +21,10 @@ same-length : tie.Need-same-length
 same-length c = search needs
 
 returns : tie.Need-returns
-returns c = let a = c .before .before .before .before .before .before .before .before .args in let e = c .before .before .feed .ensures in (e .sane, took-part (a .day) (a .numbers .now) e)
+returns c =
+    let fed = c .before .before in
+    let a = fed .before .before .before .before .before .before .args in
+    stands-fed (a .progress) (a .numbers .now) _ (fed .feed .ensures)
 
 pub take-part-spec : {M : Type 1} → statement M
 take-part-spec =

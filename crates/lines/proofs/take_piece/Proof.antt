@@ -28,19 +28,22 @@ same-length-2 c = search needs
 returns : tie.Need-returns
 unfolding pointOf
 returns c =
-    let end = c .before .before .before .before .before .before .before .before .before .before .before .before .before .line-end .ensures in
-    let closed = c .before .before .before .before .before .close-piece .ensures in
-    (went-piece end (c .before .before .before .before .before .before .before .before .before .before .before .take-part .ensures .1) (c .before .before .before .before .before .before .before .before .if1 .taken) (closed .0) (closed .1), omega (arith, end .forth))
+    let closed = c .before .before .before .before .before in
+    let test = closed .before .before .before in
+    let taken = test .before .before .before in
+    let end = taken .before .before .line-end .ensures in
+    (went-piece end (taken .take-part .ensures .is) (test .if1 .taken) (closed .close-piece .ensures .0) (closed .close-piece .ensures .1), omega (arith, end .forth))
 
 same-length-3 : tie.Need-same-length-3
 same-length-3 c = search needs
 
 returns-2 : tie.Need-returns-2
 returns-2 c =
-    let a = c .before .before .before .before .before .before .before .before .before .args in
-    let end = c .before .before .before .before .before .line-end .ensures in
-    let taken = c .before .before .before .take-part .ensures in
-    (went-rest (a .used) (a .out .now) (taken .0) end (taken .1) (c .before .before .before .before .before .before .before .before .before .pre .1) (c .if1 .left) (search needs), omega (arith, c .if1 .left, c .before .before .before .before .before .before .before .before .before .pre .1))
+    let taken = c .before .before .before in
+    let start = taken .before .before .before .before .before .before in
+    let a = start .args in
+    let end = taken .before .before .line-end .ensures in
+    (went-rest (a .used) (a .out .now) end (taken .take-part .ensures) (start .pre .1) (c .if1 .left) (search needs), omega (arith, c .if1 .left, start .pre .1))
 
 pub take-piece-spec : {M : Type 1} → statement M
 take-piece-spec =

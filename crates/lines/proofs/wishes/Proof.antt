@@ -1,7 +1,7 @@
 -- `wishes` begins a run that makes frames.
 -- Assumes nothing.
 use Rattle.lines.specs.Lines.{wishes}
-use Rattle.lines.proofs.StreamLaws.{stands-begin, wish-start}
+use Rattle.lines.proofs.StreamLaws.{begins, wish-start}
 use Rattle.wish.proofs.ScanLaws.{holds-start}
 use borrow.Author.Needs.{needs}
 use Rattle.lines.proofs.wishes.Statement.{statement}
@@ -14,7 +14,7 @@ nothing-requires : tie.Need-nothing-requires
 nothing-requires c κs = search needs
 
 returns : tie.Need-returns
-returns c = λ numbers l. stands-begin wishes (wish-start (holds-start (c .before .begin .result) numbers (c .before .begin .ensures) l)) (c .nothing .ensures)
+returns c = begins wishes (λ numbers l. wish-start (holds-start (c .before .begin .result) numbers (c .before .begin .ensures) l)) (c .nothing .ensures)
 
 pub wishes-spec : {M : Type 1} → statement M
 wishes-spec = tie.close (tie.spec begin-requires nothing-requires returns)

@@ -1,3 +1,4 @@
+-- Code's answer as a number and one cell, beside the list of symbols.
 use mathlib.Core.Path.{sym, _∙_}
 use Rattle.lora_c.proofs.FrontLaws.{short, enough, lent-short, lent-enough}
 use borrow.Author.Needs.{needs}
@@ -16,14 +17,20 @@ code-requires c κs = search needs
 enum-known-counted : tie.Need-enum-known-counted
 enum-known-counted c = search needs
 
-put1-requires : tie.Need-put1-requires
-put1-requires c κs = search needs
+slice-aggregate-put : tie.Need-slice-aggregate-put
+slice-aggregate-put c = search needs
+
+put-requires : tie.Need-put-requires
+put-requires c κs = search needs
 
 enum-known-counted-2 : tie.Need-enum-known-counted-2
 enum-known-counted-2 c = search needs
 
-put1-requires-2 : tie.Need-put1-requires-2
-put1-requires-2 c κs = search needs
+slice-aggregate-put-2 : tie.Need-slice-aggregate-put-2
+slice-aggregate-put-2 c = search needs
+
+put-requires-2 : tie.Need-put-requires-2
+put-requires-2 c κs = search needs
 
 same-length : tie.Need-same-length
 same-length c = search needs
@@ -32,11 +39,13 @@ same-length-2 : tie.Need-same-length-2
 same-length-2 c = search needs
 
 returns-2 : tie.Need-returns-2
-returns-2 c = let m = c .before .before .before .before .before in
+returns-2 c =
+    let p = c .before .before in
+    let m = p .before .before .before .before in
     let k = m .before .before .before .before in
     let h = k .before .before .before .if1 .left in
     rw (← k .before .before .settings-of .ensures, sym (k .code .ensures .answer) ∙ m .counted .given .1)
-    (record { is = enough h (c .before .before .put1 .ensures); symbols = lent-enough h (rw (m .counted .given .1) at (k .code .ensures .cells)) })
+    (record { is = enough h (p .put .ensures); symbols = lent-enough h (rw (m .counted .given .1) at (k .code .ensures .cells)) })
 
 same-length-3 : tie.Need-same-length-3
 same-length-3 c = search needs
@@ -45,11 +54,13 @@ same-length-4 : tie.Need-same-length-4
 same-length-4 c = search needs
 
 returns-3 : tie.Need-returns-3
-returns-3 c = let m = c .before .before .before .before .before in
+returns-3 c =
+    let p = c .before .before in
+    let m = p .before .before .before .before in
     let k = m .before .before .before .before in
     let h = k .before .before .before .if1 .left in
     rw (← k .before .before .settings-of .ensures, sym (k .code .ensures .answer) ∙ m .counted2 .given .1)
-    (record { is = enough h (c .before .before .put12 .ensures); symbols = lent-enough h (rw (m .counted2 .given .1) at (k .code .ensures .cells)) })
+    (record { is = enough h (p .put2 .ensures); symbols = lent-enough h (rw (m .counted2 .given .1) at (k .code .ensures .cells)) })
 
 pub lora-code-spec : {M : Type 1} → statement M
 lora-code-spec =
@@ -59,9 +70,11 @@ lora-code-spec =
     settings-of-requires
     code-requires
     enum-known-counted
-    put1-requires
+    slice-aggregate-put
+    put-requires
     enum-known-counted-2
-    put1-requires-2
+    slice-aggregate-put-2
+    put-requires-2
     same-length
     same-length-2
     returns-2

@@ -1,3 +1,4 @@
+-- Count's answer as a number and one cell.
 use mathlib.Core.Path.{sym, _∙_}
 use Rattle.lora_c.proofs.FrontLaws.{short, enough}
 use borrow.Author.Needs.{needs}
@@ -16,32 +17,42 @@ count-requires c κs = search needs
 enum-known-counted : tie.Need-enum-known-counted
 enum-known-counted c = search needs
 
-put1-requires : tie.Need-put1-requires
-put1-requires c κs = search needs
+slice-aggregate-put : tie.Need-slice-aggregate-put
+slice-aggregate-put c = search needs
+
+put-requires : tie.Need-put-requires
+put-requires c κs = search needs
 
 enum-known-counted-2 : tie.Need-enum-known-counted-2
 enum-known-counted-2 c = search needs
 
-put1-requires-2 : tie.Need-put1-requires-2
-put1-requires-2 c κs = search needs
+slice-aggregate-put-2 : tie.Need-slice-aggregate-put-2
+slice-aggregate-put-2 c = search needs
+
+put-requires-2 : tie.Need-put-requires-2
+put-requires-2 c κs = search needs
 
 same-length : tie.Need-same-length
 same-length c = search needs
 
 returns-2 : tie.Need-returns-2
-returns-2 c = let m = c .before .before .before .before .before in
+returns-2 c =
+    let p = c .before .before in
+    let m = p .before .before .before .before in
     let k = m .before .before in
     rw (← k .before .settings-of .ensures, sym (k .count .ensures) ∙ m .counted .given .1)
-    (record { is = enough (k .before .before .if1 .left) (c .before .before .put1 .ensures) })
+    (record { is = enough (k .before .before .if1 .left) (p .put .ensures) })
 
 same-length-2 : tie.Need-same-length-2
 same-length-2 c = search needs
 
 returns-3 : tie.Need-returns-3
-returns-3 c = let m = c .before .before .before .before .before in
+returns-3 c =
+    let p = c .before .before in
+    let m = p .before .before .before .before in
     let k = m .before .before in
     rw (← k .before .settings-of .ensures, sym (k .count .ensures) ∙ m .counted2 .given .1)
-    (record { is = enough (k .before .before .if1 .left) (c .before .before .put12 .ensures) })
+    (record { is = enough (k .before .before .if1 .left) (p .put2 .ensures) })
 
 pub lora-count-spec : {M : Type 1} → statement M
 lora-count-spec =
@@ -51,9 +62,11 @@ lora-count-spec =
     settings-of-requires
     count-requires
     enum-known-counted
-    put1-requires
+    slice-aggregate-put
+    put-requires
     enum-known-counted-2
-    put1-requires-2
+    slice-aggregate-put-2
+    put-requires-2
     same-length
     returns-2
     same-length-2

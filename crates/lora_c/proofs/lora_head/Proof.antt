@@ -1,3 +1,4 @@
+-- Head's answer as a number and three cells.
 use mathlib.Core.Path.{sym, _∙_}
 use Rattle.lora_c.proofs.FrontLaws.{short, enough}
 use borrow.Author.Needs.{needs}
@@ -13,38 +14,49 @@ head-requires c κs = search needs
 enum-known-heading : tie.Need-enum-known-heading
 enum-known-heading c = search needs
 
-put1-requires : tie.Need-put1-requires
-put1-requires c κs = search needs
+slice-aggregate-put : tie.Need-slice-aggregate-put
+slice-aggregate-put c = search needs
+
+put-requires : tie.Need-put-requires
+put-requires c κs = search needs
 
 enum-known-heading-2 : tie.Need-enum-known-heading-2
 enum-known-heading-2 c = search needs
 
-cast-put3 : tie.Need-cast-put3
-cast-put3 c = search needs
+cast-t23 : tie.Need-cast-t23
+cast-t23 c = search needs
 
 flag-requires : tie.Need-flag-requires
 flag-requires c κs = search needs
 
-put3-requires : tie.Need-put3-requires
-put3-requires c κs = search needs
+slice-aggregate-put-2 : tie.Need-slice-aggregate-put-2
+slice-aggregate-put-2 c = search needs
+
+put-requires-2 : tie.Need-put-requires-2
+put-requires-2 c κs = search needs
 
 same-length : tie.Need-same-length
 same-length c = search needs
 
 returns-2 : tie.Need-returns-2
-returns-2 c = let m = c .before .before .before .before .before in
+returns-2 c =
+    let p = c .before .before in
+    let m = p .before .before .before .before in
     let k = m .before .before in
     rw (sym (k .head .ensures) ∙ m .heading .given .1)
-    (record { is = enough (k .before .if1 .left) (c .before .before .put1 .ensures) })
+    (record { is = enough (k .before .if1 .left) (p .put .ensures) })
 
 same-length-2 : tie.Need-same-length-2
 same-length-2 c = search needs
 
 returns-3 : tie.Need-returns-3
-returns-3 c = let m = c .before .before .before .before .before .before in
+returns-3 c =
+    let p = c .before .before in
+    let f = p .before .before in
+    let m = f .before .before .before .before in
     let k = m .before .before in
     rw (sym (k .head .ensures) ∙ m .heading2 .given .1)
-    (record { is = enough (k .before .if1 .left) (rw (c .before .before .before .flag .ensures) at (c .before .before .put3 .ensures)) })
+    (record { is = enough (k .before .if1 .left) (rw (f .flag .ensures) at (p .put2 .ensures)) })
 
 pub lora-head-spec : {M : Type 1} → statement M
 lora-head-spec =
@@ -53,11 +65,13 @@ lora-head-spec =
     returns
     head-requires
     enum-known-heading
-    put1-requires
+    slice-aggregate-put
+    put-requires
     enum-known-heading-2
-    cast-put3
+    cast-t23
     flag-requires
-    put3-requires
+    slice-aggregate-put-2
+    put-requires-2
     same-length
     returns-2
     same-length-2

@@ -23,7 +23,9 @@ slice-aggregate-answer : tie.Need-slice-aggregate-answer
 slice-aggregate-answer c = search needs
 
 answer-requires : tie.Need-answer-requires
-answer-requires c κs = (rw (c .before .before .turn .given .1) at (c .before .before .before .before .before .before .take-all .ensures)) .1 .sane
+answer-requires c κs =
+    let match = c .before .before in
+    (rw (match .turn .given .1) at (match .before .before .before .before .take-all .ensures)) .1 .sane
 
 enum-known-turn-2 : tie.Need-enum-known-turn-2
 enum-known-turn-2 c = search needs

@@ -1,13 +1,11 @@
 -- `take_all` takes a text whole, or fails.
 -- Assumes nothing.
-use mathlib.Core.List.{List, [], _++_}
-use mathlib.Core.Path.{_≡_}
+use mathlib.Core.List.{List, []}
+use mathlib.Core.Path.{_≡_, _∙_}
 use Prim.Native.Nat.{ℕ}
 use lib.ListN.{length}
-use Rattle.system.specs.Calls.{chunkOf}
 use Rattle.text.specs.Scan.{start, run, Holds}
 use Rattle.text.proofs.ScanLaws.{holds-start, holds-piece}
-use Rattle.lora_read.proofs.TurnLaws.{follows-more, follows-ended, holds-same}
 use borrow.Author.Needs.{needs}
 use Rattle.lora_read.proofs.take_all.Statement.{statement}
 use Rattle.lora_read.proofs.take_all.Tie as tie
@@ -34,7 +32,7 @@ read-some-requires : tie.Need-read-some-requires Inv-loop μ-loop
 read-some-requires c κs = search needs
 
 take-got-requires : tie.Need-take-got-requires Inv-loop μ-loop
-take-got-requires c κs = (c .before .before .before .before .read-some .ensures, c .before .before .before .before .before .before .before .loop .inv .0 .1 .sane)
+take-got-requires c κs = let read = c .before .before .before .before in (read .read-some .ensures, read .before .before .before .loop .inv .0 .1 .sane)
 
 enum-known-turn : tie.Need-enum-known-turn Inv-loop μ-loop
 enum-known-turn c = search needs
@@ -44,12 +42,11 @@ loop-less c = search needs
 
 loop-again : tie.Need-loop-again Inv-loop μ-loop
 loop-again c =
-    let i = c .before .before .before .before .before .before .before .before .before .before .before .before .before .loop .inv in
-    let got = c .before .before .before .before .before .before .before .before .before .before .read-some .result in
-    let more = follows-more got (c .before .before .before .before .before .take-got .ensures) (c .before .turn .given .1) in
-    let kept = c .before .before .before .before .before .take-got .kept in
-    let read = c .before .before .before .before .before .before .before .before .before .before .read-some .kept in
-    ((i .0 .0 ++ chunkOf got _, holds-piece (i .0 .0) (chunkOf got _) (i .0 .1) more), search needs, search needs)
+    let took = c .before .before .before .before .before in
+    let read = took .before .before .before .before .before in
+    let held = read .before .before .before .loop .inv .0 in
+    let more = rw (c .before .turn .given .1) at (took .take-got .ensures) in
+    ((_, holds-piece (held .0) _ (held .1) (more .2)), search needs, search needs)
 
 enum-known-turn-2 : tie.Need-enum-known-turn-2 Inv-loop μ-loop
 enum-known-turn-2 c = search needs
@@ -62,8 +59,10 @@ same-length-2 c = search needs
 
 returns : tie.Need-returns Inv-loop μ-loop
 returns c =
-    let i = c .before .before .before .before .before .before .before .before .before .before .before .before .before .loop .inv in
-    (i .0 .0, holds-same (i .0 .1) (follows-ended (c .before .before .before .before .before .before .before .before .before .before .read-some .result) (c .before .before .before .before .before .take-got .ensures) (c .before .turn2 .given .1)))
+    let took = c .before .before .before .before .before in
+    let held = took .before .before .before .before .before .before .before .before .loop .inv .0 in
+    let end = rw (c .before .turn2 .given .1) at (took .take-got .ensures) in
+    (held .0, record { sane = end .2 .sane; is = end .2 .is ∙ held .1 .is })
 
 enum-known-turn-3 : tie.Need-enum-known-turn-3 Inv-loop μ-loop
 enum-known-turn-3 c = search needs

@@ -11,7 +11,10 @@ enum-known-got : tie.Need-enum-known-got
 enum-known-got c = search needs
 
 slice-aggregate-feed : tie.Need-slice-aggregate-feed
-slice-aggregate-feed c = let h = rw (c .before .before .got .given .1) at (c .before .before .before .before .before .before .pre .0) in search (needs, length-take-le)
+slice-aggregate-feed c =
+    let match = c .before .before in
+    let h = rw (match .got .given .1) at (match .before .before .before .before .pre .0) in
+    search (needs, length-take-le)
 
 feed-requires : tie.Need-feed-requires
 feed-requires c κs = search needs
@@ -26,13 +29,13 @@ same-length : tie.Need-same-length
 same-length c = search needs
 
 returns : tie.Need-returns
-returns c = rw (c .before .before .before .before .before .before .got .given .1) (record { is = c .before .before .feed .ensures })
+returns c = let fed = c .before .before in (_, fed .before .before .before .before .got .given .1, fed .feed .ensures)
 
 returns-2 : tie.Need-returns-2
-returns-2 c = rw (c .enum-told .given .1) (record { is = (refl, holds-here (c .before .before .before .before .pre .1)) })
+returns-2 c = (c .enum-told .given .1, refl, holds-here (c .before .before .before .before .pre .1))
 
 returns-3 : tie.Need-returns-3
-returns-3 c = rw (c .before .got2 .given .1) (record { is = refl })
+returns-3 c = c .before .got2 .given .1
 
 pub take-got-spec : {M : Type 1} → statement M
 take-got-spec =

@@ -1,6 +1,8 @@
+-- A byte is its two nibbles, the low one first.
 use Prim.Native.Nat.{_+_, _*_}
 use native.Mathlib.Omega.{arith}
-use Rattle.reading.specs.Payload.{byteOfNibbles, listed}
+use Rattle.reading.specs.Payload.{byteOfNibbles}
+use Rattle.reading.specs.Stages.{listed}
 use borrow.Author.Needs.{needs}
 use Rattle.reading.proofs.byte_of_nibbles.Statement.{statement}
 use Rattle.reading.proofs.byte_of_nibbles.Tie as tie
@@ -28,11 +30,13 @@ element-copy-out-high c = search needs
 
 mul-result : tie.Need-mul-result
 mul-result c = let p = c .before .before .args .p in
-    omega (arith, c .before .before .pre .1 (5 + 2 * p), c .before .before .pre .1 (5 + 2 * p + 1))
+    let h = c .before .before .args .header in
+    omega (arith, c .before .before .pre .2 (h + 2 * p), c .before .before .pre .2 (h + 2 * p + 1))
 
 add-result : tie.Need-add-result
 add-result c = let p = c .before .before .args .p in
-    omega (arith, c .before .before .pre .1 (5 + 2 * p), c .before .before .pre .1 (5 + 2 * p + 1))
+    let h = c .before .before .args .header in
+    omega (arith, c .before .before .pre .2 (h + 2 * p), c .before .before .pre .2 (h + 2 * p + 1))
 
 returns : tie.Need-returns
 unfolding byteOfNibbles listed

@@ -1,3 +1,4 @@
+-- The checksum is the two bytes behind the payload, the low one first.
 use Rattle.reading.specs.Payload.{sentChecksum}
 use borrow.Author.Needs.{needs}
 use Rattle.reading.proofs.checksum_of_nibbles.Statement.{statement}

@@ -1,14 +1,9 @@
+-- The grid of a block is that of its symbol words.
 use mathlib.Core.Path.{_∙_}
-use Rattle.reading.specs.Heard.{gridInBlock}
+use Rattle.reading.specs.Stages.{gridOfSymbols}
 use borrow.Author.Needs.{needs}
 use Rattle.reading.proofs.grid_of_block.Statement.{statement}
 use Rattle.reading.proofs.grid_of_block.Tie as tie
-
-wide-requires : tie.Need-wide-requires
-wide-requires c κs = search needs
-
-add-columns : tie.Need-add-columns
-add-columns c = search needs
 
 words-of-block-requires : tie.Need-words-of-block-requires
 words-of-block-requires c κs = search needs
@@ -17,10 +12,10 @@ grid-of-words-requires : tie.Need-grid-of-words-requires
 grid-of-words-requires c κs = search needs
 
 returns : tie.Need-returns
-unfolding gridInBlock
-returns c = c .grid-of-words .ensures ∙ rw (c .before .words-of-block .ensures, c .before .before .wide .ensures)
+unfolding gridOfSymbols
+returns c = c .grid-of-words .ensures ∙ rw (c .before .words-of-block .ensures)
 
 pub grid-of-block-spec : {M : Type 1} → statement M
 grid-of-block-spec =
     tie.close
-    (tie.spec wide-requires add-columns words-of-block-requires grid-of-words-requires returns)
+    (tie.spec words-of-block-requires grid-of-words-requires returns)

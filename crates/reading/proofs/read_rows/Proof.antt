@@ -1,3 +1,4 @@
+-- Each row that can be read adds its nibble and its repair; the first that can't ends the run: a loop over the rows.
 use Rattle.bits.specs.Bit.{asBit}
 use Rattle.bits.proofs.Searches.{asBit-le}
 use Rattle.codeword.specs.Codeword.{nibbleOf, isRepaired, isUnreadable}
@@ -5,7 +6,8 @@ use Prim.Native.Nat.{_≤_, _-_, _+_}
 use mathlib.Core.Path.{_≡_, sym, ap, _∙_}
 use native.Mathlib.Omega.{arith}
 use Rattle.bits.proofs.Fill.{FilledAt, filledAt-none, filledAt-more}
-use Rattle.reading.specs.Heard.{readRow, nibbleAt}
+use Rattle.reading.specs.Found.{nibbleAt}
+use Rattle.reading.specs.Stages.{readRow, rowsFrom}
 use Rattle.reading.proofs.RowLaws.{row-lt}
 use Rattle.reading.proofs.ReadLoop.{Clear, clear-none, clear-more, clear-le, walk-stop, walk-end}
 use borrow.Author.Needs.{needs}
@@ -13,22 +15,26 @@ use Rattle.reading.proofs.read_rows.Statement.{statement}
 use Rattle.reading.proofs.read_rows.Tie as tie
 
 abbrev Inv-loop : tie.InvT-loop
-Inv-loop rate n at nibbles₀ g columns repairs₀ i₀ nibbles repairs i =
-    (columns ≡ 4 + rate) × (i ≤ n) × Clear (readRow rate g) i repairs × FilledAt (nibbleAt (readRow rate g)) nibbles₀ at i nibbles
+Inv-loop readings rate g from n at nibbles₀ columns repairs₀ i₀ nibbles repairs i =
+    (columns ≡ 4 + rate) × (i ≤ n) × Clear (rowsFrom rate g from) i repairs × FilledAt (nibbleAt (rowsFrom rate g from)) nibbles₀ at i nibbles
 
 abbrev μ-loop : tie.MeasureT-loop
-μ-loop rate n at nibbles₀ g columns repairs₀ i₀ nibbles repairs i = n - i
+μ-loop readings rate g from n at nibbles₀ columns repairs₀ i₀ nibbles repairs i = n - i
 
--- what a row is read as
-heard : (c : tie.After-read-word Inv-loop μ-loop) → let a = c .before .before .before .before .before .before .args in
-    c .read-word .result ≡ readRow (a .rate) (a .t2) (c .before .before .before .before .loop .i)
-unfolding readRow
-heard c = c .read-word .ensures ∙ rw (c .before .codeword-of-grid .ensures, c .before .before .before .before .loop .inv .0)
+-- the beginning, from a turn of the loop
+abbrev start : tie.In-loop Inv-loop μ-loop → tie.Start Inv-loop μ-loop
+start c = c .before .before .before
 
--- what the test of a codeword says of it
-flag : (c : tie.After-unreadable Inv-loop μ-loop) → let a = c .before .before .before .before .before .before .before .args in
-    isUnreadable (readRow (a .rate) (a .t2) (c .before .before .before .before .before .loop .i)) ≡ c .unreadable .result
-flag c = sym (c .unreadable .ensures ∙ ap isUnreadable (heard (c .before)))
+-- what the row in turn is read as
+row : (c : tie.After-read-word Inv-loop μ-loop) → let a = start (c .before .before) .args in
+    c .read-word .result ≡ rowsFrom (a .rate) (a .g .now) (a .from) (c .before .before .before .loop .i)
+unfolding rowsFrom readRow
+row c = c .read-word .ensures ∙ rw (c .before .codeword-of-grid .ensures, c .before .before .before .loop .inv .0)
+
+-- what the test of it says
+test : (c : tie.After-unreadable Inv-loop μ-loop) → let a = start (c .before .before .before) .args in
+    isUnreadable (rowsFrom (a .rate) (a .g .now) (a .from) (c .before .before .before .before .loop .i)) ≡ c .unreadable .result
+test c = sym (c .unreadable .ensures ∙ ap isUnreadable (row (c .before)))
 
 wide-requires : tie.Need-wide-requires Inv-loop μ-loop
 wide-requires c κs = search needs
@@ -39,18 +45,21 @@ add-columns c = search needs
 loop-holds : tie.Need-loop-holds Inv-loop μ-loop
 loop-holds c = (search needs, search needs, clear-none _, filledAt-none _ _ _ (search needs))
 
+add-codeword-of-grid : tie.Need-add-codeword-of-grid Inv-loop μ-loop
+add-codeword-of-grid c = search needs
+
 codeword-of-grid-requires : tie.Need-codeword-of-grid-requires Inv-loop μ-loop
 codeword-of-grid-requires c κs = search needs
 
 read-word-requires : tie.Need-read-word-requires Inv-loop μ-loop
-read-word-requires c κs = (search needs, rw (c .codeword-of-grid .ensures, ← c .before .before .before .loop .inv .0) (row-lt _ _ _))
+read-word-requires c κs = (search needs, search needs, rw (c .codeword-of-grid .ensures, ← c .before .before .loop .inv .0) (row-lt _ _ _))
 
 unreadable-requires : tie.Need-unreadable-requires Inv-loop μ-loop
 unreadable-requires c κs = search needs
 
 returns : tie.Need-returns Inv-loop μ-loop
-returns c = let l = c .before .before .before .before .before .before .loop in
-    walk-stop (l .inv .2) (l .inv .3) (search needs) (flag (c .before) ∙ c .if1 .taken)
+returns c = let l = c .before .before .before .before .before .loop in
+    walk-stop (l .inv .2) (l .inv .3) (search needs) (test (c .before) ∙ c .if1 .taken)
 
 nibble-requires : tie.Need-nibble-requires Inv-loop μ-loop
 nibble-requires c κs = search needs
@@ -68,7 +77,8 @@ cast-repairs : tie.Need-cast-repairs Inv-loop μ-loop
 cast-repairs c = search needs
 
 add-repairs : tie.Need-add-repairs Inv-loop μ-loop
-add-repairs c = let l = c .before .before .before .before .before .before .before .before .loop in
+add-repairs c = let w = c .before .before .before .before in
+    let l = w .before .before .before .loop in
     omega (arith, clear-le (l .inv .2), asBit-le (c .repaired .result))
 
 add-i : tie.Need-add-i Inv-loop μ-loop
@@ -78,12 +88,12 @@ loop-less : tie.Need-loop-less Inv-loop μ-loop
 loop-less c = search needs
 
 loop-again : tie.Need-loop-again Inv-loop μ-loop
-loop-again c = let l = c .before .before .before .before .before .before .before .before .loop in
-    let w = heard (c .before .before .before .before) in (
+loop-again c = let w = c .before .before .before .before in
+    let l = w .before .before .before .loop in (
       l .inv .0,
       search needs,
-      clear-more (l .inv .2) (flag (c .before .before .before) ∙ c .before .before .if1 .left) (ap asBit (c .repaired .ensures ∙ ap isRepaired w)),
-      filledAt-more (l .inv .3) (search needs) (c .before .nibble .ensures ∙ ap nibbleOf w),
+      clear-more (l .inv .2) (test (c .before .before .before) ∙ c .before .before .if1 .left) (ap asBit (c .repaired .ensures ∙ ap isRepaired (row w))),
+      filledAt-more (l .inv .3) (search needs) (c .before .nibble .ensures ∙ ap nibbleOf (row w)),
     )
 
 returns-2 : tie.Need-returns-2 Inv-loop μ-loop
@@ -100,6 +110,7 @@ read-rows-spec =
     wide-requires
     add-columns
     loop-holds
+    add-codeword-of-grid
     codeword-of-grid-requires
     read-word-requires
     unreadable-requires

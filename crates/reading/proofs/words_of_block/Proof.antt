@@ -1,16 +1,17 @@
+-- The words of a block are those of its symbols: a loop over the columns.
 use Prim.Native.Nat.{ℕ, _≤_, _-_}
 use native.Mathlib.Omega.{arith}
 use Rattle.bits.specs.Tab.{blank}
 use Rattle.bits.proofs.Tabs.{length-blank}
 use Rattle.bits.proofs.Fill.{Filled, filled-none, filled-more, filled-end}
-use Rattle.reading.specs.Heard.{symbolWord}
-use Rattle.reading.proofs.ReadLoop.{symbolAt}
+use Rattle.reading.specs.Stages.{symbolWord}
+use Rattle.reading.proofs.ReadLoop.{wordAt}
 use borrow.Author.Needs.{needs}
 use Rattle.reading.proofs.words_of_block.Statement.{statement}
 use Rattle.reading.proofs.words_of_block.Tie as tie
 
 abbrev Inv-loop : tie.InvT-loop
-Inv-loop symbols wide first columns words₀ j₀ words j = (j ≤ columns) × Filled (symbolAt wide first symbols) (blank 8 0) j words
+Inv-loop symbols wide first columns words₀ j₀ words j = (j ≤ columns) × Filled (wordAt wide first symbols) (blank 8 0) j words
 
 abbrev μ-loop : tie.MeasureT-loop
 μ-loop symbols wide first columns words₀ j₀ words j = columns - j
@@ -50,11 +51,11 @@ loop-less : tie.Need-loop-less Inv-loop μ-loop
 loop-less c = search needs
 
 loop-again : tie.Need-loop-again Inv-loop μ-loop
-unfolding symbolAt
+unfolding wordAt
 loop-again c = (search needs, filled-more (c .before .before .before .loop .inv .1) (omega (arith, length-blank {A = ℕ} 8 0)) (c .word-of-number .ensures))
 
 returns : tie.Need-returns Inv-loop μ-loop
-unfolding symbolWord symbolAt
+unfolding symbolWord wordAt
 returns c = filled-end (c .before .loop .inv .1) (omega arith)
 
 pub words-of-block-spec : {M : Type 1} → statement M

@@ -1,4 +1,4 @@
--- `pause::pause` meets its contract: a walk of its MIR, by hand. The two structs are made in locals; each is lent for a lifetime of its own, the first by `&` and the second by `&mut`;
+-- `pause` meets its contract: a walk of its MIR, by hand. The two structs are made in locals; each is lent for a lifetime of its own, the first by `&` and the second by `&mut`;
 -- `nanosleep` is called; both lifetimes are ended, the two locals are whole again, and they are freed.
 -- All that the proof knows of `nanosleep` is its contract, and of that only what its types say.
 -- Assumes nothing.

@@ -1,3 +1,5 @@
+-- `read_some` answers no more bytes than the buffer has, and its tries run out.
+-- Assumes nothing.
 use mathlib.Core.Path.{_≡_}
 use lib.ListN.{length}
 use borrow.Author.Needs.{needs}

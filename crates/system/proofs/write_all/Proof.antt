@@ -1,3 +1,5 @@
+-- `write_all` counts what the system took, and says whether it is all; its tries run out.
+-- Assumes nothing.
 use Prim.Native.Nat.{_≤_}
 use lib.ListN.{length}
 use borrow.Author.Needs.{needs}

@@ -1,3 +1,5 @@
+-- `add_digit` takes a digit that fits, and refuses any other.
+-- Assumes nothing.
 use Prim.Native.Nat.{_+_, _-_, _*_}
 use mathlib.Core.Logic.{⊎-elim}
 use Rattle.text.proofs.ScanLaws.{many-digits, large-value, grown-more, grown-not}
@@ -19,7 +21,9 @@ add-t10 : tie.Need-add-t10
 add-t10 c = search needs
 
 returns : tie.Need-returns
-returns c = grown-more _ (c .before .before .before .before .before .before .pre .0) (c .before .before .if1 .taken) (leb-true _ _ (c .before .if2 .taken))
+returns c =
+    let few = c .before .before in
+    grown-more _ (few .before .before .before .before .pre .0) (few .if1 .taken) (leb-true _ _ (c .before .if2 .taken))
 
 refused-requires : tie.Need-refused-requires
 refused-requires c κs = search needs

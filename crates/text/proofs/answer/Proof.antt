@@ -1,12 +1,23 @@
+-- `answer` declines what is no frame, and answers a frame from the list's parts.
+-- Assumes nothing.
 use mathlib.Core.Path.{sym, _∙_}
 use Prim.Native.Nat.{_≤_}
 use borrow.Author.Tests.{not-true, not-false}
-use Rattle.text.specs.Scan.{taken, lineAt, outcomeAt}
-use Rattle.text.proofs.AnswerLaws.{drop-take, frame-two}
+use Rattle.text.specs.Scan.{lineAt, outcomeAt}
+use Rattle.bits.proofs.Lists.{drop-take}
+use Rattle.text.proofs.AnswerLaws.{frame-two}
 use Rattle.text.proofs.ScanLaws.{frame-is}
 use borrow.Author.Needs.{needs}
 use Rattle.text.proofs.answer.Statement.{statement}
 use Rattle.text.proofs.answer.Tie as tie
+
+-- the text's end, before the test of what it is
+abbrev done : tie.After-is-frame → tie.After-finish
+done c = c .before .before .before .before
+
+-- a frame has its first two numbers
+two : (c : tie.Else1) → 2 ≤ done (c .before) .finish .result .count
+two c = frame-two (done (c .before) .finish .result) (done (c .before) .finish .last .1 .0) (sym (c .before .is-frame .ensures) ∙ not-false _ (c .if1 .left))
 
 finish-requires : tie.Need-finish-requires
 finish-requires c κs = search needs
@@ -25,8 +36,9 @@ same-length-2 c = search needs
 
 returns : tie.Need-returns
 unfolding lineAt outcomeAt
-returns c = let is = c .before .before .before .before .before .before .before .before .before .finish .ensures in
-    rw (frame-is _ is, sym (c .before .before .before .before .before .is-frame .ensures) ∙ not-true _ (c .before .before .before .before .if1 .taken))
+returns c =
+    let test = c .before .before .before .before in
+    rw (frame-is _ (done (test .before) .finish .ensures), sym (test .before .is-frame .ensures) ∙ not-true _ (test .if1 .taken))
     (c .before .before .answer-with .ensures)
 
 slice-read-answer-frame : tie.Need-slice-read-answer-frame
@@ -36,10 +48,10 @@ slice-read-answer-frame-2 : tie.Need-slice-read-answer-frame-2
 slice-read-answer-frame-2 c = search needs
 
 sub-answer-frame : tie.Need-sub-answer-frame
-sub-answer-frame c = frame-two (c .before .before .before .before .before .before .before .finish .result) (c .before .before .before .before .before .before .before .finish .last .1 .0) (sym (c .before .before .before .is-frame .ensures) ∙ not-false _ (c .before .before .if1 .left))
+sub-answer-frame c = two (c .before .before)
 
 part-answer-frame-start : tie.Need-part-answer-frame-start
-part-answer-frame-start c = let two : 2 ≤ c .before .before .before .before .before .before .before .before .finish .result .count = frame-two (c .before .before .before .before .before .before .before .before .finish .result) (c .before .before .before .before .before .before .before .before .finish .last .1 .0) (sym (c .before .before .before .before .is-frame .ensures) ∙ not-false _ (c .before .before .before .if1 .left)) in search needs
+part-answer-frame-start c = let h = two (c .before .before .before) in search needs
 
 part-answer-frame-end : tie.Need-part-answer-frame-end
 part-answer-frame-end c = search needs
@@ -55,9 +67,12 @@ same-length-4 c = search needs
 
 returns-2 : tie.Need-returns-2
 unfolding lineAt outcomeAt
-returns-2 c = let is = c .before .before .before .before .before .before .before .before .before .before .before .before .before .finish .ensures in
-    rw (frame-is _ is, sym (c .before .before .before .before .before .before .before .before .before .is-frame .ensures) ∙ not-false _ (c .before .before .before .before .before .before .before .before .if1 .left), drop-take)
-    (c .before .before .answer-frame .ensures)
+returns-2 c =
+    let frame = c .before .before in
+    let part = frame .before .before .before in
+    let test = part .before .before .before in
+    rw (frame-is _ (done (test .before) .finish .ensures), sym (test .before .is-frame .ensures) ∙ not-false _ (test .if1 .left), drop-take)
+    (frame .answer-frame .ensures)
 
 pub answer-spec : {M : Type 1} → statement M
 answer-spec =

@@ -1,3 +1,5 @@
+-- `answer_frame` reads the frame, with SF narrowed to a byte, and writes the line.
+-- Assumes nothing.
 use Rattle.bits.specs.Tab.{blank}
 use Rattle.text.proofs.AnswerLaws.{read-shown, frame-read}
 use borrow.Author.Needs.{needs}
@@ -21,10 +23,11 @@ same-length c = search needs
 
 returns : tie.Need-returns
 unfolding blank
-returns c = let r = c .before .before .before .before .before .read .ensures in
-    let e = c .before .before .answer-with .ensures in
-    let is = frame-read (c .before .before .before .before .before .before .before .before .before .before .args .sf) _ _ _ _ _ (c .before .before .before .before .before .before .before .narrow .ensures) r in
-    rw (← is .0, ← is .1) e
+returns c =
+    let read = c .before .before .before .before .before in
+    let narrow = read .before .before in
+    let is = frame-read (narrow .before .before .before .args .sf) _ _ _ _ _ (narrow .narrow .ensures) (read .read .ensures) in
+    rw (← is .0, ← is .1) (c .before .before .answer-with .ensures)
 
 pub answer-frame-spec : {M : Type 1} → statement M
 answer-frame-spec =

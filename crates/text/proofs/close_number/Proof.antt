@@ -1,3 +1,5 @@
+-- `close_number` stores the open number, if there is one and there is place.
+-- Assumes nothing.
 use Rattle.text.proofs.ScanLaws.{shut-none, shut-one, shut-full}
 use borrow.Author.Needs.{needs}
 use Rattle.text.proofs.close_number.Statement.{statement}

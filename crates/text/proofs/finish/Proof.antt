@@ -1,3 +1,5 @@
+-- `finish` shuts the open number, unless the text is bad already.
+-- Assumes nothing.
 use Rattle.text.proofs.ScanLaws.{holds-here, end-stays, end-shuts}
 use borrow.Author.Needs.{needs}
 use Rattle.text.proofs.finish.Statement.{statement}

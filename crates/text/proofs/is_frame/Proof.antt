@@ -1,3 +1,5 @@
+-- `is_frame` tests in the order of the definition.
+-- Assumes nothing.
 use Rattle.text.proofs.ScanLaws.{frame-few, frame-rate}
 use borrow.Author.Needs.{needs}
 use Rattle.text.proofs.is_frame.Statement.{statement}

@@ -1,3 +1,5 @@
+-- `narrow` keeps what fits a byte.
+-- Assumes nothing.
 use borrow.Author.Tests.{le-leb, lt-leb}
 use borrow.Author.Needs.{needs}
 use Rattle.text.proofs.narrow.Statement.{statement}

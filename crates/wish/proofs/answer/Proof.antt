@@ -8,6 +8,9 @@ use borrow.Author.Needs.{needs}
 use Rattle.wish.proofs.answer.Statement.{statement}
 use Rattle.wish.proofs.answer.Tie as tie
 
+abbrev start : tie.After-is-wish → tie.Start
+start c = c .before .before .before .before
+
 is-wish-requires : tie.Need-is-wish-requires
 is-wish-requires c κs = search needs
 
@@ -22,7 +25,9 @@ same-length-2 c = search needs
 
 returns : tie.Need-returns
 unfolding lineAt outcomeAt
-returns c = rw (wish-is (c .before .before .before .before .before .before .before .before .before .pre .0), sym (c .before .before .before .before .before .is-wish .ensures) ∙ not-true _ (c .before .before .before .before .if1 .taken)) (c .before .before .decline .ensures)
+returns c =
+    let test = c .before .before .before .before in
+    rw (wish-is (start (test .before) .pre .0), sym (test .before .is-wish .ensures) ∙ not-true _ (test .if1 .taken)) (c .before .before .decline .ensures)
 
 answer-wish-requires : tie.Need-answer-wish-requires
 answer-wish-requires c κs = search needs
@@ -35,7 +40,9 @@ same-length-4 c = search needs
 
 returns-2 : tie.Need-returns-2
 unfolding lineAt outcomeAt
-returns-2 c = rw (wish-is (c .before .before .before .before .before .before .before .before .before .before .pre .0), sym (c .before .before .before .before .before .before .is-wish .ensures) ∙ not-false _ (c .before .before .before .before .before .if1 .left)) (c .before .before .answer-wish .ensures)
+returns-2 c =
+    let test = c .before .before .before .before .before in
+    rw (wish-is (start (test .before) .pre .0), sym (test .before .is-wish .ensures) ∙ not-false _ (test .if1 .left)) (c .before .before .answer-wish .ensures)
 
 pub answer-spec : {M : Type 1} → statement M
 answer-spec =

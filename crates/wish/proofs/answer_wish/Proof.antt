@@ -3,8 +3,10 @@
 use mathlib.Core.Path.{sym}
 use lib.Seq.{length-take-le}
 use Rattle.bits.specs.Tab.{tab, blank}
-use Rattle.wish.specs.Scan.{settingsBy, byteIn}
-use Rattle.wish.proofs.AnswerLaws.{coding-of, coded-line, coded-outcome, coded-fits, filled-front}
+use Rattle.bits.proofs.Lists.{take-over}
+use Rattle.wish.specs.Scan.{byteIn}
+use Rattle.wish.specs.Wish.{settingsOf}
+use Rattle.wish.proofs.AnswerLaws.{coding-of, coded-line, coded-outcome, coded-fits}
 use borrow.Author.Needs.{needs}
 use Rattle.wish.proofs.answer_wish.Statement.{statement}
 use Rattle.wish.proofs.answer_wish.Tie as tie
@@ -36,10 +38,10 @@ answer-with-requires c κs =
     let call = c .before .before .before in
     let fill = call .before .before .before in
     let a = fill .before .before .before .before .args in
-    let s = settingsBy (a .numbers .now) in
+    let s = settingsOf (a .numbers .now) in
     let f = byteIn (a .numbers .now) in
     let payload = fill .payload-of .ensures in
-    let coding = coding-of {payload = tab (a .bytes) f} s (fill .before .settings-of .ensures) (rw payload (filled-front (a .bytes) f (blank 256 0))) (call .code .ensures) in
+    let coding = coding-of {payload = tab (a .bytes) f} s (fill .before .settings-of .ensures) (rw payload (take-over (a .bytes) f (blank 256 0))) (call .code .ensures) in
     (coded-fits s (tab (a .bytes) f) coding, search needs, search needs)
 
 same-length : tie.Need-same-length
@@ -48,14 +50,15 @@ same-length c = search needs
 returns : tie.Need-returns
 unfolding blank
 returns c =
-    let call = c .before .before .before .before .before .before in
+    let line = c .before .before in
+    let call = line .before .before .before .before in
     let fill = call .before .before .before in
     let a = fill .before .before .before .before .args in
-    let s = settingsBy (a .numbers .now) in
+    let s = settingsOf (a .numbers .now) in
     let f = byteIn (a .numbers .now) in
     let payload = fill .payload-of .ensures in
-    let coding = coding-of {payload = tab (a .bytes) f} s (fill .before .settings-of .ensures) (rw payload (filled-front (a .bytes) f (blank 256 0))) (call .code .ensures) in
-    rw (← coded-line s (tab (a .bytes) f) coding, ← coded-outcome s (tab (a .bytes) f) coding, ← fill .before .settings-of .ensures) (c .before .before .answer-with .ensures)
+    let coding = coding-of {payload = tab (a .bytes) f} s (fill .before .settings-of .ensures) (rw payload (take-over (a .bytes) f (blank 256 0))) (call .code .ensures) in
+    rw (← coded-line s (tab (a .bytes) f) coding, ← coded-outcome s (tab (a .bytes) f) coding, ← fill .before .settings-of .ensures) (line .answer-with .ensures)
 
 pub answer-wish-spec : {M : Type 1} → statement M
 answer-wish-spec =

@@ -2,14 +2,19 @@
 -- Assumes nothing.
 use Prim.Native.Nat.{_≤_}
 use mathlib.Core.Path.{sym, refl}
+use lib.ListN.{length, take}
 use lib.Seq.{length-take-le}
 use Rattle.line.proofs.Puts.{put-all}
 use borrow.Author.Needs.{needs}
 use Rattle.wish.proofs.answer_with.Statement.{statement}
 use Rattle.wish.proofs.answer_with.Tie as tie
 
+-- what was coded: its symbols fit the list, so that the part of the list is as long
 fits : (c : tie.After-counted) → c .counted .given .0 .0 ≤ 832
 fits c = rw (c .counted .given .1) at (c .before .before .before .before .pre .0)
+
+long : (c : tie.After-counted) → length (take (c .counted .given .0 .0) (c .before .before .before .before .args .symbols .now)) ≤ 832
+long c = let h = fits c in rw (length-take-le (c .counted .given .0 .0) (c .before .before .before .before .args .symbols .now) (search needs)) h
 
 enum-known-counted : tie.Need-enum-known-counted
 enum-known-counted c = search needs
@@ -18,9 +23,7 @@ slice-aggregate-put-frame : tie.Need-slice-aggregate-put-frame
 slice-aggregate-put-frame c = sym (length-take-le _ _ (let h = fits (c .before .before) in search needs))
 
 put-frame-requires : tie.Need-put-frame-requires
-put-frame-requires c κs =
-    let h = fits (c .before .before .before) in
-    (rw (length-take-le (c .before .before .before .counted .given .0 .0) (c .before .before .before .before .before .before .before .args .symbols .now) (search needs)) h, search needs)
+put-frame-requires c κs = (long (c .before .before .before), search needs)
 
 enum-known-counted-2 : tie.Need-enum-known-counted-2
 enum-known-counted-2 c = search needs
@@ -33,9 +36,10 @@ same-length c = search needs
 
 returns : tie.Need-returns
 returns c =
-    let e = c .before .before .put-frame .ensures in
+    let frame = c .before .before in
+    let e = frame .put-frame .ensures in
     let written = put-all (e .0) in
-    rw (c .before .before .before .before .before .before .counted .given .1) (record { long = written .0; short = e .1; cells = written .1; is = refl })
+    rw (frame .before .before .before .before .counted .given .1) (record { long = written .0; short = e .1; cells = written .1; is = refl })
 
 same-length-2 : tie.Need-same-length-2
 same-length-2 c = search needs

@@ -23,8 +23,9 @@ same-length c = search needs
 
 returns : tie.Need-returns
 returns c =
-    let a = c .before .before .before .before .before .before .args in
-    let e = c .before .before .write-line .ensures in
+    let line = c .before .before in
+    let a = line .before .before .before .before .args in
+    let e = line .write-line .ensures in
     record { long = e .0; short = let l = line-length (Refused (a .number) (a .place)) [] (omega arith) in omega (arith, e .0); cells = e .1; is = refl }
 
 pub decline-spec : {M : Type 1} → statement M

@@ -44,10 +44,11 @@ same-length c = search needs
 
 returns-4 : tie.Need-returns-4
 returns-4 c =
-    let v = c .before .before .before .hex-value .ensures in
-    let b = c .before .before .before .before .before .before .args .b in
+    let digit = c .before .before .before in
+    let v = digit .hex-value .ensures in
+    let b = digit .before .before .before .args .b in
     let low = c .before .if2 .left in
-    keep-one _ _ _ (c .before .before .before .before .high-digit .ensures) (is-hex b v low) (hex-is b v low) (c .before .before .if1 .left) low (c .if3 .left) (search needs)
+    keep-one _ _ _ (digit .before .high-digit .ensures) (is-hex b v low) (hex-is b v low) (c .before .before .if1 .left) low (c .if3 .left) (search needs)
 
 pub keep-byte-spec : {M : Type 1} → statement M
 keep-byte-spec =

@@ -2,12 +2,14 @@
 -- Assumes nothing.
 use Prim.Native.Nat.{_≤_, _-_, _+_, _*_}
 use mathlib.Core.Path.{_≡_}
+use mathlib.Core.List.{flatMap}
 use lib.ListN.{length, take}
 use lib.Seq.{take-all}
+use Rattle.bits.proofs.Lists.{flatMap-more}
+use Rattle.line.specs.Line.{field}
 use Rattle.line.specs.Put.{Put}
 use Rattle.line.proofs.Puts.{put-on, put-none}
 use Rattle.wish.specs.Wish.{fields}
-use Rattle.wish.proofs.AnswerLaws.{fields-more}
 use borrow.Author.Needs.{needs}
 use Rattle.wish.proofs.put_fields.Statement.{statement}
 use Rattle.wish.proofs.put_fields.Tie as tie
@@ -18,8 +20,12 @@ Inv-loop out₀ at symbols next₀ i₀ i-end out next i = (i-end ≡ length sym
 abbrev μ-loop : tie.MeasureT-loop
 μ-loop out₀ at symbols next₀ i₀ i-end out next i = i-end - i
 
+-- the loop's turn that a field was put in
+abbrev turn : tie.After-put-field Inv-loop μ-loop → tie.At-loop Inv-loop μ-loop
+turn c = c .before .before .before .before .before
+
 loop-holds : tie.Need-loop-holds Inv-loop μ-loop
-unfolding fields
+unfolding flatMap
 loop-holds c = (search needs, search needs, search needs, put-none _ _ (search needs))
 
 mul-wide16 : tie.Need-mul-wide16 Inv-loop μ-loop
@@ -42,11 +48,11 @@ loop-less c = search needs
 
 loop-again : tie.Need-loop-again Inv-loop μ-loop
 loop-again c =
-    let now = c .before .before .before .before .before .before .before in (
+    let now = turn (c .before .before) in (
       search needs,
       search needs,
       search needs,
-      rw (← fields-more (now .before .before .before .args .symbols .now) (now .loop .i) (search needs), ← c .before .before .before .wide16 .ensures) (put-on (now .loop .inv .3) (c .before .before .put-field .ensures .0)),
+      rw (← flatMap-more field (now .before .before .before .args .symbols .now) (now .loop .i) 0 (search needs), ← c .before .before .before .wide16 .ensures) (put-on (now .loop .inv .3) (c .before .before .put-field .ensures .0)),
     )
 
 same-length : tie.Need-same-length Inv-loop μ-loop

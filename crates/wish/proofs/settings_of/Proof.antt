@@ -1,7 +1,7 @@
 -- `settings_of` reads the four numbers.
 -- Assumes nothing.
 use Rattle.wish.specs.Answer.{narrow}
-use Rattle.wish.specs.Scan.{settingsBy}
+use Rattle.wish.specs.Wish.{settingsOf}
 use borrow.Author.Needs.{needs}
 use Rattle.wish.proofs.settings_of.Statement.{statement}
 use Rattle.wish.proofs.settings_of.Tie as tie
@@ -21,11 +21,11 @@ shared-slice-read-narrow-2 c = search needs
 narrow-requires-2 : tie.Need-narrow-requires-2
 narrow-requires-2 c κs = search needs
 
-shared-slice-read-checksum : tie.Need-shared-slice-read-checksum
-shared-slice-read-checksum c = search needs
+shared-slice-read-checked : tie.Need-shared-slice-read-checked
+shared-slice-read-checked c = search needs
 
 returns : tie.Need-returns
-unfolding narrow settingsBy
+unfolding narrow settingsOf
 returns c = rw (c .before .before .before .before .narrow .ensures, c .before .narrow2 .ensures)
 
 pub settings-of-spec : {M : Type 1} → statement M
@@ -37,5 +37,5 @@ settings-of-spec =
     shared-slice-read-low
     shared-slice-read-narrow-2
     narrow-requires-2
-    shared-slice-read-checksum
+    shared-slice-read-checked
     returns)

@@ -12,7 +12,9 @@ same-length : tie.Need-same-length
 same-length c = search needs
 
 returns : tie.Need-returns
-returns c = holds-headed _ (c .before .before .before .before .before .before .before .before .pre) (c .before .before .before .before .if1 .taken) (c .before .before .take-byte .ensures)
+returns c =
+    let test = c .before .before .before .before in
+    holds-headed _ (test .before .before .before .before .pre) (test .if1 .taken) (c .before .before .take-byte .ensures)
 
 take-payload-requires : tie.Need-take-payload-requires
 take-payload-requires c κs = search needs
@@ -21,7 +23,9 @@ same-length-2 : tie.Need-same-length-2
 same-length-2 c = search needs
 
 returns-2 : tie.Need-returns-2
-returns-2 c = rw (step-worded _ (c .before .before .before .before .before .before .before .before .pre) (c .before .before .before .before .if1 .left)) (c .before .before .take-payload .ensures)
+returns-2 c =
+    let test = c .before .before .before .before in
+    rw (step-worded _ (test .before .before .before .before .pre) (test .if1 .left)) (c .before .before .take-payload .ensures)
 
 pub take-byte-spec : {M : Type 1} → statement M
 take-byte-spec =

@@ -15,7 +15,9 @@ same-length : tie.Need-same-length
 same-length c = search needs
 
 returns : tie.Need-returns
-returns c = holds-worded _ (c .before .before .before .before .before .before .before .pre) (c .next-word .ensures) (c .before .before .before .keep-byte .ensures)
+returns c =
+    let keep = c .before .before .before in
+    holds-worded _ (keep .before .before .before .before .pre) (c .next-word .ensures) (keep .keep-byte .ensures)
 
 pub take-payload-spec : {M : Type 1} → statement M
 take-payload-spec = tie.close (tie.spec keep-byte-requires next-word-requires same-length returns)

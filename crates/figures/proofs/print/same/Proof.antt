@@ -1,3 +1,4 @@
+-- Each place is within both lists, which are equally long: a loop over their places.
 use mathlib.Core.Path.{_≡_}
 use Prim.Native.Nat.{_≤_, _-_}
 use lib.ListN.{length}
@@ -6,10 +7,10 @@ use Rattle.figures.proofs.print.same.Statement.{statement}
 use Rattle.figures.proofs.print.same.Tie as tie
 
 abbrev Inv-loop : tie.InvT-loop
-Inv-loop a b i₀ i-end i = (i-end ≡ length a) × (length a ≡ length b) × (i ≤ i-end)
+Inv-loop list step document i₀ i-end i = (i-end ≡ length list) × (length list ≡ length document) × (i ≤ i-end)
 
 abbrev μ-loop : tie.MeasureT-loop
-μ-loop a b i₀ i-end i = i-end - i
+μ-loop list step document i₀ i-end i = i-end - i
 
 returns : tie.Need-returns Inv-loop μ-loop
 returns c = search needs
@@ -17,17 +18,20 @@ returns c = search needs
 loop-holds : tie.Need-loop-holds Inv-loop μ-loop
 loop-holds c = search needs
 
+mul-seen : tie.Need-mul-seen Inv-loop μ-loop
+mul-seen c = search needs
+
+shared-slice-read-seen : tie.Need-shared-slice-read-seen Inv-loop μ-loop
+shared-slice-read-seen c = search needs
+
+seen-requires : tie.Need-seen-requires Inv-loop μ-loop
+seen-requires c κs = search needs
+
 mul-if2 : tie.Need-mul-if2 Inv-loop μ-loop
 mul-if2 c = search needs
 
 shared-slice-read-if2 : tie.Need-shared-slice-read-if2 Inv-loop μ-loop
 shared-slice-read-if2 c = search needs
-
-mul-if2-2 : tie.Need-mul-if2-2 Inv-loop μ-loop
-mul-if2-2 c = search needs
-
-shared-slice-read-if2-2 : tie.Need-shared-slice-read-if2-2 Inv-loop μ-loop
-shared-slice-read-if2-2 c = search needs
 
 returns-2 : tie.Need-returns-2 Inv-loop μ-loop
 returns-2 c = search needs
@@ -52,10 +56,11 @@ same-spec =
     μ-loop
     returns
     loop-holds
+    mul-seen
+    shared-slice-read-seen
+    seen-requires
     mul-if2
     shared-slice-read-if2
-    mul-if2-2
-    shared-slice-read-if2-2
     returns-2
     add-i
     loop-less

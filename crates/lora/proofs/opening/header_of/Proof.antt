@@ -1,0 +1,68 @@
+-- Five codewords read, then judged.
+use mathlib.Core.Path.{_≡_, sym, ap, _∙_}
+use Prim.Native.Nat.{ℕ}
+use native.Mathlib.Omega.{arith}
+use Rattle.lora.specs.Head.{said}
+use Rattle.lora.proofs.HeadLaws.{header-refused, header-said, header-repairs}
+use borrow.Author.Needs.{needs}
+use Rattle.lora.proofs.opening.header_of.Statement.{statement}
+use Rattle.lora.proofs.opening.header_of.Tie as tie
+
+readings-requires : tie.Need-readings-requires
+readings-requires c κs = search needs
+
+read-rows-requires : tie.Need-read-rows-requires
+read-rows-requires c κs = search needs
+
+returns : tie.Need-returns
+returns c =
+    record {
+      says = sym (header-refused _ (c .before .read-rows .ensures) (c .if1 .taken));
+      counts = λ h e. absurd (let z : _≡_ {A = ℕ} 0 1 = cc in omega arith);
+    }
+
+array-read-t14 : tie.Need-array-read-t14
+array-read-t14 c = search needs
+
+array-read-t17 : tie.Need-array-read-t17
+array-read-t17 c = search needs
+
+array-read-t20 : tie.Need-array-read-t20
+array-read-t20 c = search needs
+
+array-read-t23 : tie.Need-array-read-t23
+array-read-t23 c = search needs
+
+array-read-t26 : tie.Need-array-read-t26
+array-read-t26 c = search needs
+
+judge-requires : tie.Need-judge-requires
+judge-requires c κs = search needs
+
+said-requires : tie.Need-said-requires
+said-requires c κs = search needs
+
+returns-2 : tie.Need-returns-2
+returns-2 c =
+    let w = c .before .before .before .read-rows .ensures in
+    let all = c .before .before .if1 .left in
+    record {
+      says = c .said .ensures ∙ ap said (c .before .judge .ensures) ∙ sym (header-said _ w all);
+      counts = λ h e. header-repairs _ w all;
+    }
+
+pub header-of-spec : {M : Type 1} → statement M
+header-of-spec =
+    tie.close
+    (tie.spec
+    readings-requires
+    read-rows-requires
+    returns
+    array-read-t14
+    array-read-t17
+    array-read-t20
+    array-read-t23
+    array-read-t26
+    judge-requires
+    said-requires
+    returns-2)

@@ -1,0 +1,135 @@
+-- The data codewords read; then 7 or 8, 12, or the payload.
+use mathlib.Core.Path.{refl, sym, _∙_}
+use Prim.Native.Nat.{_+_, _-_, _≤_}
+use native.Mathlib.Omega.{arith}
+use borrow.Author.Tests.{not-true, not-false}
+use denote.Ref.{now}
+use Rattle.bits.specs.Tab.{blank}
+use Rattle.layout.specs.Layout.{nibblesOf, symbolsOf}
+use Rattle.layout.proofs.LayoutLaws.{data-le, nibbles-le}
+use Rattle.lora.proofs.ReadLaws.{Run, data-is, whole-is, run-le, run-few, run-small, run-payload, says-unreadable, says-twelve, says-payload}
+use borrow.Author.Needs.{needs}
+use Rattle.lora.proofs.receiving.decode.Statement.{statement}
+use Rattle.lora.proofs.receiving.decode.Tie as tie
+
+-- the count of nibbles, and how the function was called, from behind the run
+abbrev counted : tie.After-read-data → tie.After-nibbles-of
+counted c = c .before .before .before .before
+
+abbrev start : tie.After-read-data → tie.Start
+start c = counted c .before .before
+
+-- what the run over the data codewords gives
+run : (c : tie.After-read-data) → let a = start c .args in
+    Run (a .f) (now (a .symbols)) (a .len) (a .repairs) (c .read-data .last .1 .1 .1 .1 .1 .0) (c .read-data .result .end) (c .read-data .result .repairs)
+unfolding blank
+run c =
+    let s = start c in
+    record {
+      valid = s .pre .headed .valid;
+      header = s .pre .headed .counts;
+      walk = rw (data-is (s .args .f) (s .args .len) (counted c .nibbles-of .ensures)) at (c .read-data .ensures);
+    }
+
+-- it reads at most 514 codewords
+few : (c : tie.After-read-data) → c .read-data .result .end ≤ 514
+few c =
+    let s = start c in
+    omega (arith, run-le (run c), data-le (s .args .len) (s .args .f .checked) (s .pre .headed .short))
+
+-- where it did not end early all codewords were read
+whole : (c : tie.Else1) → let a = start (c .before .before) .args in nibblesOf (a .f) (a .len) ≤ a .f .header + c .before .before .read-data .result .end
+whole c = omega (arith, c .if1 .left, counted (c .before .before) .nibbles-of .ensures)
+
+nibbles-of-requires : tie.Need-nibbles-of-requires
+nibbles-of-requires c κs = search needs
+
+readings-requires : tie.Need-readings-requires
+readings-requires c κs = search needs
+
+sub-read-data : tie.Need-sub-read-data
+unfolding nibblesOf
+sub-read-data c = omega (arith, c .before .before .nibbles-of .ensures)
+
+read-data-requires : tie.Need-read-data-requires
+unfolding symbolsOf
+read-data-requires c κs =
+    let r = c .before .before in
+    let s = r .before .before .before in
+    let v = s .pre .headed .valid in
+    let e = whole-is (s .args .f) (s .args .len) (r .before .nibbles-of .ensures) in (
+      r .readings .ensures,
+      v,
+      s .pre .headed .first,
+      rw e (nibbles-le (s .args .f) (s .args .len) v (s .pre .headed .short)),
+      rw e (omega (arith, s .pre .whole, s .pre .there)),
+      refl,
+    )
+
+add-end : tie.Need-add-end
+add-end c = omega (arith, few (c .before), start (c .before) .pre .headed .valid .header-high)
+
+refusal-at-requires : tie.Need-refusal-at-requires
+refusal-at-requires c κs = search needs
+
+returns : tie.Need-returns
+returns c =
+    let r = c .before .before .before in
+    record {
+      says = says-unreadable (run r) _ (omega (arith, c .before .if1 .taken, counted r .nibbles-of .ensures)) (c .refusal-at .ensures);
+      held = search needs;
+    }
+
+payload-of-nibbles-requires : tie.Need-payload-of-nibbles-requires
+payload-of-nibbles-requires c κs =
+    let r = c .before .before .before in
+    let h = start r .pre .headed in
+    (h .valid .header-high, h .short, run-small (run r))
+
+sum-holds-requires : tie.Need-sum-holds-requires
+sum-holds-requires c κs =
+    let r = c .before .before .before .before .before in
+    let h = start r .pre .headed in
+    (h .valid, h .short, run-small (run r))
+
+returns-2 : tie.Need-returns-2
+returns-2 c =
+    let p = c .before .before .before in
+    let e = p .before .before in
+    record {
+      says = says-twelve (run (e .before .before)) _ (blank 255 0) (whole e) (p .payload-of-nibbles .ensures) (sym (c .before .sum-holds .ensures) ∙ not-true _ (c .if2 .taken));
+      held = search needs;
+    }
+
+add-t17 : tie.Need-add-t17
+add-t17 c =
+    let p = c .before .before .before .before in
+    let r = p .before .before .before .before in
+    omega (arith, run-few (run r), few r, start r .pre .headed .valid .header-high)
+
+returns-3 : tie.Need-returns-3
+returns-3 c =
+    let p = c .before .before .before .before in
+    let e = p .before .before in
+    let w = run (e .before .before) in
+    record {
+      says = rw (start (e .before .before) .pre .whole) (says-payload w _ (blank 255 0) (whole e) (p .payload-of-nibbles .ensures) (sym (c .before .before .sum-holds .ensures) ∙ not-false _ (c .before .if2 .left)));
+      held = p .payload-of-nibbles .ensures ∙ run-payload w (whole e) (blank 255 0);
+    }
+
+pub decode-spec : {M : Type 1} → statement M
+decode-spec =
+    tie.close
+    (tie.spec
+    nibbles-of-requires
+    readings-requires
+    sub-read-data
+    read-data-requires
+    add-end
+    refusal-at-requires
+    returns
+    payload-of-nibbles-requires
+    sum-holds-requires
+    returns-2
+    add-t17
+    returns-3)

@@ -1,0 +1,194 @@
+// The operation read.
+ghost use mathlib.Core.Path.{_≡_};
+ghost use Prim.Native.Nat.{ℕ, _≤_, _<_};
+ghost use lib.ListN.{length, getD};
+ghost use Rattle.bits.specs.Tab.{over};
+ghost use Rattle.layout.specs.Ranges.{Valid};
+ghost use Rattle.reading.specs.Stages.{listed};
+ghost use Rattle.lora.specs.Read.{refusalAt, Reading};
+ghost use Rattle.lora.specs.Stages.{Entered, sumAgrees, Headed, Decodable, Decoded, Bodied};
+ghost use Rattle.lora.specs.declared.opening.Entry.the-variants.{Passed};
+use crate::Accepted;
+use crate::Heading;
+use crate::Received;
+use crate::Settings;
+use crate::counting;
+use crate::opening;
+use crate::opening::Entry;
+use layout::Frame;
+use layout::LONGEST;
+use reading::NIBBLES;
+
+// The number of the refusal of a codeword that can't be read: 8 at 4/7, else 7.
+fn refusal_at(f: Frame, i: usize) -> u8
+    requires { ⌜ Valid f ⌝ }
+    ensures { λ r. ⌜ r ≡ refusalAt f i ⌝ }
+{
+    if i < bits::wide(f.sf) - 2 {
+        return refusal::UNREADABLE;
+    }
+    if f.cr == 3 {
+        refusal::UNREADABLE_4_7
+    } else {
+        refusal::UNREADABLE
+    }
+}
+
+// Whether the payload's checksum is the one that was sent, where there is one.
+fn sum_holds(f: Frame, len: usize, payload: [u8; LONGEST], nibbles: &[u8; NIBBLES]) -> bool
+    requires { ⌜ Valid f × (len ≤ 255) × ((i : ℕ) → getD (now nibbles) i 0 < 16) ⌝ }
+    ensures { λ r. ⌜ r ≡ sumAgrees f len payload (now (nibbles .entry)) ⌝ }
+{
+    if f.checked {
+        checksum::checksum(&payload[..len]) == reading::checksum_of_nibbles(nibbles, f.header, len)
+    } else {
+        true
+    }
+}
+
+// The payload as it is read, with the answer.
+struct Body {
+    payload: [u8; LONGEST],
+    answer: Received,
+}
+
+// Reads the data codewords of the frame, which is there whole and in range, behind a header with so many repairs.
+fn decode(
+    f: Frame,
+    grid: &[[bool; 8]; 12],
+    repairs: usize,
+    symbols: &[u16],
+    len: usize,
+    total: usize,
+) -> Body
+    requires { ⌜ Decodable f (now symbols) len (now grid) repairs total ⌝ }
+    ensures { λ r. ⌜ Decoded f (now (symbols .entry)) len (r .payload) (r .answer) ⌝ }
+{
+    let header = f.header;
+    let n = layout::nibbles_of(f, len);
+    let mut nibbles = [0u8; NIBBLES];
+    let readings = codeword::readings();
+    let progress = reading::read_data(&readings, f, grid, symbols, n - header, &mut nibbles);
+    let end = header + progress.end;
+    if end < n {
+        return Body {
+            payload: [0u8; LONGEST],
+            answer: Received::Refused {
+                number: refusal_at(f, end),
+                place: end,
+            },
+        };
+    }
+    let payload = reading::payload_of_nibbles(&nibbles, header, len);
+    if !sum_holds(f, len, payload, &nibbles) {
+        return Body {
+            payload,
+            answer: Received::Refused {
+                number: refusal::CHECKSUM,
+                place: 0,
+            },
+        };
+    }
+    let answer = Received::Payload(Accepted {
+        length: len,
+        cr: f.cr,
+        checked: f.checked,
+        symbols: total,
+        repairs: repairs + progress.repairs,
+    });
+    Body { payload, answer }
+}
+
+// Writes the payload's first len bytes to the lent buffer.
+fn copy(payload: [u8; LONGEST], len: usize, out: &mut [u8])
+    requires { ⌜ (len ≤ 255) × (len ≤ length (now out)) ⌝ }
+    ensures { λ _. ⌜ now (out .exit) ≡ over len (listed payload) (now (out .entry)) ⌝ }
+{
+    for i in 0..len {
+        out[i] = payload[i];
+    }
+}
+
+// Reads the frame behind a header that was read.
+fn read_body(
+    f: Frame,
+    grid: &[[bool; 8]; 12],
+    repairs: usize,
+    symbols: &[u16],
+    len: usize,
+    out: &mut [u8],
+) -> Received
+    requires { ⌜ Headed f (now symbols) len (now grid) repairs ⌝ }
+    ensures { λ r. ⌜ Bodied f (now (symbols .entry)) len (now (out .entry)) (now (out .exit)) r ⌝ }
+{
+    let total = layout::symbols_of(f, len);
+    if out.len() < len {
+        return Received::Refused {
+            number: refusal::OUT_SHORT,
+            place: len,
+        };
+    }
+    if symbols.len() < total {
+        return Received::Refused {
+            number: refusal::FEW_SYMBOLS,
+            place: total,
+        };
+    }
+    let over = opening::first_over(f.sf, symbols, 8, total);
+    if over < total {
+        return Received::Refused {
+            number: refusal::SYMBOL_OVER,
+            place: over,
+        };
+    }
+    let body = decode(f, grid, repairs, symbols, len, total);
+    let payload = body.payload;
+    let answer = body.answer;
+    match answer {
+        Received::Refused { number, place } => Received::Refused { number, place },
+        Received::Payload(a) => {
+            copy(payload, a.length, out);
+            Received::Payload(a)
+        }
+    }
+}
+
+// Reads a frame whose checks before the header are passed.
+fn read_on(sf: u8, low: bool, symbols: &[u16], out: &mut [u8]) -> Received
+    requires { ⌜ Entered Passed sf (now symbols) ⌝ }
+    ensures { λ r. ⌜ Reading sf low (now (symbols .entry)) (now (out .entry)) (now (out .exit)) r ⌝ }
+{
+    let grid = reading::first_grid(sf, symbols);
+    let opened = opening::header_of(&grid);
+    let heading = opened.heading;
+    match heading {
+        Heading::Refused { number, place } => Received::Refused { number, place },
+        Heading::Says(h) => {
+            let s = Settings {
+                sf,
+                low,
+                cr: h.cr,
+                checked: h.checked,
+            };
+            read_body(
+                counting::frame_of(s),
+                &grid,
+                opened.repairs,
+                symbols,
+                h.length,
+                out,
+            )
+        }
+    }
+}
+
+// Reads a frame's payload into the lent buffer.
+pub fn read(sf: u8, low: bool, symbols: &[u16], out: &mut [u8]) -> Received
+    ensures { λ r. ⌜ Reading sf low (now (symbols .entry)) (now (out .entry)) (now (out .exit)) r ⌝ }
+{
+    let entry = opening::enter(sf, symbols);
+    match entry {
+        Entry::Refused { number, place } => Received::Refused { number, place },
+        Entry::Passed => read_on(sf, low, symbols, out),
+    }
+}

@@ -1,0 +1,51 @@
+-- A frame's symbols as they were written, whatever follows them, have no change.
+-- Assumes nothing.
+use mathlib.Core.Path.{_≡_, sym, ap, _∙_}
+use mathlib.Core.Bool.{not}
+use mathlib.Core.List.{List, _++_}
+use Prim.Native.Nat.{ℕ, _+_, _^_, _≤_, _<_}
+use native.Mathlib.Omega.{arith}
+use lib.ListN.{length, getD, take, drop, length-append, List·getD-append}
+use lib.Seq.{take-at}
+use borrow.Author.Tests.{eq-eqb}
+use Rattle.bits.specs.Tab.{tab}
+use Rattle.bits.proofs.Searches.{howMany-none}
+use Rattle.bits.proofs.Tabs.{length-tab, getD-tab}
+use Rattle.coding.proofs.CodingLaws.{symbol-below}
+use Rattle.layout.specs.Layout.{symbolsOf}
+use Rattle.layout.proofs.LayoutLaws.{symbols-below}
+use Rattle.lora.specs.Code.{sentSymbol, Coding}
+use Rattle.lora.specs.Count.{frameOf}
+use Rattle.lora.specs.declared.Settings.{Settings}
+use Rattle.lora.specs.declared.Counted.the-variants.{Symbols}
+use Rattle.lora.proofs.CountLaws.{coded}
+use Rattle.promises.specs.Damage.{readWords, blockAt, changedSymbols, FewSymbols}
+use Rattle.promises.proofs.Codewords.{frame-cells}
+
+module _ {s : Settings} {payload old sent : List ℕ} {count : ℕ} (c : Coding s payload old sent (Symbols count)) where
+  -- what code writes is below 2^SF
+  pub below-limit : (t : ℕ) → t < count → getD sent t 0 < 2 ^ (s .sf)
+  unfolding sentSymbol
+  below-limit t h =
+      rw (frame-cells s payload old sent count c t h)
+      (symbol-below (frameOf s) _ t (coded s payload (length old) count (sym (c .answer)) .0 .settings))
+
+  module _ (after : List ℕ) where
+    as-written : take count sent ≡ tab count (sentSymbol s payload)
+    as-written = rw (c .cells) (take-at (tab count (sentSymbol s payload)) (drop count old) count (length-tab count _))
+
+    pub same : (t : ℕ) → t < count → getD (take count sent ++ after) t 0 ≡ getD sent t 0
+    same t h =
+        rw as-written (List·getD-append (tab count (sentSymbol s payload)) after 0 t (rw length-tab h) ∙ getD-tab count (sentSymbol s payload) t 0 h)
+        ∙ sym (frame-cells s payload old sent count c t h)
+
+    pub enough : count ≤ length (take count sent ++ after)
+    enough = rw (as-written, length-append, length-tab) (omega arith)
+
+    pub unchanged : FewSymbols 0 s payload sent (take count sent ++ after)
+    unfolding changedSymbols blockAt readWords symbolsOf
+    unchanged b h =
+        let k = coded s payload (length old) count (sym (c .answer)) .0 in
+        let within = symbols-below (frameOf s) (k .settings) (readWords s payload) b h in
+        let none = howMany-none _ (4 + blockAt s b .rate) (λ j l. ap not (eq-eqb _ _ (same (blockAt s b .symbol + j) (omega (arith, k .is))))) in
+        omega (arith, none)

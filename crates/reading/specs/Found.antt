@@ -1,0 +1,41 @@
+-- What a frame's codewords are found to be in received symbols. Document 01, "Nibbles and codewords" and "Blocks, the
+-- diagonal and the Gray step".
+-- Assumes nothing.
+use mathlib.Core.Bool.{Bool}
+use mathlib.Core.List.{List}
+use Prim.Native.Nat.{ℕ, _+_, _-_}
+use lib.ListN.{getD}
+use Rattle.block.specs.Block.{received}
+use Rattle.codeword.specs.Codeword.{readAs, nibbleOf, isRepaired, isUnreadable}
+use Rattle.codeword.specs.declared.Found.{Found}
+use Rattle.layout.specs.Layout.{blockOf, blockOfCodeword}
+use Rattle.layout.specs.declared.Block.{Block}
+use Rattle.layout.specs.declared.Frame.{Frame}
+
+-- the word received for row i of a block
+unfoldable pub wordInBlock : Block → List ℕ → ℕ → ℕ
+wordInBlock B symbols i = received (B .rows) (4 + B .rate) (B .spaced) (λ j. getD symbols (B .symbol + j) 0) i
+
+-- what it is read as
+unfoldable pub foundInBlock : Block → List ℕ → ℕ → Found
+foundInBlock B symbols i = readAs (B .rate) (wordInBlock B symbols i)
+
+-- what codeword i of a frame is read as
+unfoldable pub foundAt : Frame → List ℕ → ℕ → Found
+foundAt F symbols i =
+    let B : Block = blockOf F (blockOfCodeword F i) in
+    foundInBlock B symbols (i - B .codeword)
+
+-- what data codeword i is read as; the data stand behind the header
+unfoldable pub dataFound : Frame → List ℕ → ℕ → Found
+dataFound F symbols i = foundAt F symbols (F .header + i)
+
+-- whether codeword i can't be read, whether it is repaired, and its nibble
+abbrev pub unreadableAt : (ℕ → Found) → ℕ → Bool
+unreadableAt found i = isUnreadable (found i)
+
+abbrev pub repairedAt : (ℕ → Found) → ℕ → Bool
+repairedAt found i = isRepaired (found i)
+
+abbrev pub nibbleAt : (ℕ → Found) → ℕ → ℕ
+nibbleAt found i = nibbleOf (found i)
