@@ -120,11 +120,11 @@ word-turned n j w {s} r h e p = p ∙ number-cong n _ _ (λ k l. ap (λ (i : ℕ
         let t : k + j ≡ j + k = omega arith in
         rw q (add-mod-mod k j n ∙ ap (λ (x : ℕ). x % n) t)
 
-pub words-of-columns : (n : ℕ) (g : List (List Bool)) {plain : List ℕ} → 0 < n → plain ≡ over 8 (λ j. number n (λ i. asBit (cell g i j))) (blank 8 0)
-    → over 8 (wordOfColumns n plain) (blank 8 0) ≡ wordsOfGrid n g
+pub words-of-columns : (n columns : ℕ) (g : List (List Bool)) {plain : List ℕ} → 0 < n → columns ≤ 8 → plain ≡ over 8 (λ j. number n (λ i. asBit (cell g i j))) (blank 8 0)
+    → over columns (wordOfColumns n plain) (blank 8 0) ≡ wordsOfGrid n columns g
 unfolding wordsOfGrid wordOfGrid wordOfColumns
-words-of-columns n g {plain} pos e =
-    over-cong 8 _ _ (blank 8 0) (λ j l. number-cong n _ _ (λ k s. ap (bit ((j + k) % n)) (column j l) ∙ bit-number n _ (λ i. asBit-lt (cell g i j)) ((j + k) % n) (mod-lt (j + k) pos)))
+words-of-columns n columns g {plain} pos h e =
+    over-cong columns _ _ (blank 8 0) (λ j l. number-cong n _ _ (λ k s. ap (bit ((j + k) % n)) (column j (omega arith)) ∙ bit-number n _ (λ i. asBit-lt (cell g i j)) ((j + k) % n) (mod-lt (j + k) pos)))
   where
     column : (j : ℕ) → j < 8 → getD plain j 0 ≡ number n (λ i. asBit (cell g i j))
     column j l = rw e (getD-over 8 (λ j. number n (λ i. asBit (cell g i j))) (blank 8 0) j 0 l)

@@ -23,8 +23,8 @@ cell g i j = getD (getD g i []) j false
 unfoldable pub wordOfGrid : ℕ → List (List Bool) → ℕ → ℕ
 wordOfGrid n g j = number n (λ k. asBit (cell g ((j + k) % n) j))
 
-unfoldable pub wordsOfGrid : ℕ → List (List Bool) → List ℕ
-wordsOfGrid n g = over 8 (wordOfGrid n g) (blank 8 0)
+unfoldable pub wordsOfGrid : ℕ → ℕ → List (List Bool) → List ℕ
+wordsOfGrid n columns g = over columns (wordOfGrid n g) (blank 8 0)
 
 -- words to grid: the same the other way
 unfoldable pub gridOfWords : ℕ → List ℕ → List (List Bool)

@@ -98,20 +98,21 @@ fn columns_of_grid(n: usize, g: [[bool; 8]; 12]) -> [u16; 8]
     columns
 }
 
-// Word j down its diagonal: column j, turned. The loop runs over all eight columns, so that the compiler unrolls it.
-pub fn words_of_grid(n: usize, g: [[bool; 8]; 12]) -> [u16; 8]
-    requires { ⌜ (5 ≤ n) × (n ≤ 12) ⌝ }
-    ensures { λ r. ⌜ r ≡ wordsOfGrid n g ⌝ }
+// Word j down its diagonal: column j, turned.
+pub fn words_of_grid(n: usize, columns: usize, g: [[bool; 8]; 12]) -> [u16; 8]
+    requires { ⌜ (5 ≤ n) × (n ≤ 12) × (columns ≤ 8) ⌝ }
+    ensures { λ r. ⌜ r ≡ wordsOfGrid n columns g ⌝ }
 {
     let plain = columns_of_grid(n, g);
     let mut words = [0u16; 8];
-    for j in 0..8usize {
+    for j in 0..columns {
         words[j] = turned(n, n - around(n, j), plain[j]);
     }
     words
 }
 
-// The column of each word: bit i of column j stands in row i.
+// The column of each word: bit i of column j stands in row i. The loop runs over all eight columns, so that the compiler
+// unrolls it.
 fn columns_of_words(n: usize, words: [u16; 8]) -> [u16; 8]
     requires { ⌜ (5 ≤ n) × (n ≤ 12) ⌝ }
     ensures { λ r. ⌜ r ≡ over 8 (λ j. number n (λ i. bit (placeInWord n i j) (getD words j 0))) (blank 8 0) ⌝ }

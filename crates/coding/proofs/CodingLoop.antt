@@ -77,17 +77,17 @@ pub value-small : {v : ℕ} (rows w : ℕ) → rows ≤ 12 → v ≡ valueOfWord
 value-small rows w h e = rw e (lt-of-lt-of-le (value-lt rows w) (pow-mono h))
 
 -- the words of a grid have as many bits as there are rows
-pub word-small : {words : List ℕ} (rows : ℕ) (g : List (List Bool)) (j : ℕ) → words ≡ wordsOfGrid rows g → j < 8
+pub word-small : {words : List ℕ} (rows columns : ℕ) (g : List (List Bool)) (j : ℕ) → words ≡ wordsOfGrid rows columns g → j < columns
     → getD words j 0 < 2 ^ rows
 unfolding wordsOfGrid wordOfGrid
-word-small rows g j q h =
-    rw (q, getD-over 8 (wordOfGrid rows g) (blank 8 0) j 0 h) (number-lt rows _ (λ k. asBit-lt (cell g ((j + k) % rows) j)))
+word-small rows columns g j q h =
+    rw (q, getD-over columns (wordOfGrid rows g) (blank 8 0) j 0 h) (number-lt rows _ (λ k. asBit-lt (cell g ((j + k) % rows) j)))
 
 -- symbols made of such words are those of the grid
-pub symbol-of-words : {words : List ℕ} (B : Block) (g : List (List Bool)) (j : ℕ) → words ≡ wordsOfGrid (B .rows) g
-    → j < 8 → symbolFrom (B .rows) (B .spaced) words j ≡ symbolOfColumn B g j
+pub symbol-of-words : {words : List ℕ} (B : Block) (columns : ℕ) (g : List (List Bool)) (j : ℕ) → words ≡ wordsOfGrid (B .rows) columns g
+    → j < columns → symbolFrom (B .rows) (B .spaced) words j ≡ symbolOfColumn B g j
 unfolding symbolFrom symbolOfColumn wordsOfGrid
-symbol-of-words B g j q h = rw (q, getD-over 8 (wordOfGrid (B .rows) g) (blank 8 0) j 0 h)
+symbol-of-words B columns g j q h = rw (q, getD-over columns (wordOfGrid (B .rows) g) (blank 8 0) j 0 h)
 
 -- a frame with a payload of len bytes
 module _ (F : Frame) (v : Valid F) (len : ℕ) where

@@ -113,7 +113,7 @@ fn write_block(b: Block, g: [[bool; 8]; 12], out: &mut [u16])
     let wide = b.spaced;
     let first = b.symbol;
     let columns = 4 + bits::wide(b.rate);
-    let words = block::words_of_grid(rows, g);
+    let words = block::words_of_grid(rows, columns, g);
     for j in 0..columns {
         out[first + j] = block::number_of_value(wide, block::value_of_word(rows, words[j]));
     }

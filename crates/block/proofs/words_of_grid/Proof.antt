@@ -11,10 +11,10 @@ use Rattle.block.proofs.words_of_grid.Statement.{statement}
 use Rattle.block.proofs.words_of_grid.Tie as tie
 
 abbrev Inv-loop : tie.InvT-loop
-Inv-loop n plain words₀ j₀ words j = (j ≤ 8) × Filled (wordOfColumns n plain) (blank 8 0) j words
+Inv-loop n columns plain words₀ j₀ words j = (j ≤ columns) × Filled (wordOfColumns n plain) (blank 8 0) j words
 
 abbrev μ-loop : tie.MeasureT-loop
-μ-loop n plain words₀ j₀ words j = 8 - j
+μ-loop n columns plain words₀ j₀ words j = columns - j
 
 columns-of-grid-requires : tie.Need-columns-of-grid-requires Inv-loop μ-loop
 columns-of-grid-requires c κs = search needs
@@ -58,7 +58,7 @@ loop-again c =
 
 returns : tie.Need-returns Inv-loop μ-loop
 returns c =
-    filled-end (c .before .loop .inv .1) (omega arith) ∙ words-of-columns _ _ (omega arith) (c .before .before .columns-of-grid .ensures)
+    filled-end (c .before .loop .inv .1) (omega arith) ∙ words-of-columns _ _ _ (omega arith) (omega arith) (c .before .before .columns-of-grid .ensures)
 
 pub words-of-grid-spec : {M : Type 1} → statement M
 words-of-grid-spec =

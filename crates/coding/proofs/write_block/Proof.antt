@@ -32,7 +32,7 @@ array-read-value-of-word : tie.Need-array-read-value-of-word Inv-loop μ-loop
 array-read-value-of-word c = search needs
 
 value-of-word-requires : tie.Need-value-of-word-requires Inv-loop μ-loop
-value-of-word-requires c κs = (search needs, word-small _ _ (c .before .loop .j) (c .before .before .words-of-grid .ensures) (omega arith))
+value-of-word-requires c κs = (search needs, word-small _ _ _ (c .before .loop .j) (c .before .before .words-of-grid .ensures) (omega arith))
 
 number-of-value-requires : tie.Need-number-of-value-requires Inv-loop μ-loop
 number-of-value-requires c κs = value-small _ _ (search needs) (c .value-of-word .ensures)
@@ -60,7 +60,7 @@ same-length c = search needs
 
 returns : tie.Need-returns Inv-loop μ-loop
 returns c = filledAt-as (c .before .loop .inv .1) (omega arith)
-    (λ i h. symbol-of-words (c .before .before .before .before .before .args .b) _ i (c .before .before .words-of-grid .ensures) (omega arith))
+    (λ i h. symbol-of-words (c .before .before .before .before .before .args .b) _ _ i (c .before .before .words-of-grid .ensures) (omega arith))
 
 pub write-block-spec : {M : Type 1} → statement M
 write-block-spec =
