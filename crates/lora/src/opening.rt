@@ -3,6 +3,7 @@ ghost use mathlib.Core.Path.{_≡_};
 ghost use Prim.Native.Nat.{_-_, _≤_};
 ghost use lib.Dec.{leb};
 ghost use lib.ListN.{length};
+ghost use Rattle.codeword.specs.Readings.{readingTable};
 ghost use Rattle.reading.specs.Stages.{rowsFrom};
 ghost use Rattle.lora.specs.Head.{firstOver, said, headOf};
 ghost use Rattle.lora.specs.Stages.{Entered, Opening};
@@ -93,12 +94,12 @@ pub struct Opened {
 }
 
 // Reads the header's codewords in the grid of block 0.
-pub fn header_of(grid: &[[bool; 8]; 12]) -> Opened
+pub fn header_of(readings: &[[u8; 8]; 60], grid: &[[bool; 8]; 12]) -> Opened
+    requires { ⌜ now readings ≡ readingTable ⌝ }
     ensures { λ r. ⌜ Opening (rowsFrom 4 (now (grid .entry)) 0) (r .heading) (r .repairs) ⌝ }
 {
     let mut nibbles = [0u8; NIBBLES];
-    let readings = codeword::readings();
-    let progress = reading::read_rows(&readings, 4, grid, 0, 5, 0, &mut nibbles);
+    let progress = reading::read_rows(readings, 4, grid, 0, 5, 0, &mut nibbles);
     let end = progress.end;
     if end < 5 {
         return Opened {
@@ -125,7 +126,8 @@ pub fn head(sf: u8, symbols: &[u16]) -> Heading
         Entry::Refused { number, place } => Heading::Refused { number, place },
         Entry::Passed => {
             let grid = reading::first_grid(sf, symbols);
-            header_of(&grid).heading
+            let readings = codeword::readings();
+            header_of(&readings, &grid).heading
         }
     }
 }

@@ -3,6 +3,7 @@ ghost use mathlib.Core.Path.{_≡_};
 ghost use Prim.Native.Nat.{ℕ, _≤_, _<_};
 ghost use lib.ListN.{length, getD};
 ghost use Rattle.bits.specs.Tab.{over};
+ghost use Rattle.codeword.specs.Readings.{readingTable};
 ghost use Rattle.layout.specs.Ranges.{Valid};
 ghost use Rattle.reading.specs.Stages.{listed};
 ghost use Rattle.lora.specs.Read.{refusalAt, Reading};
@@ -54,6 +55,7 @@ struct Body {
 
 // Reads the data codewords of the frame, which is there whole and in range, behind a header with so many repairs.
 fn decode(
+    readings: &[[u8; 8]; 60],
     f: Frame,
     grid: &[[bool; 8]; 12],
     repairs: usize,
@@ -61,14 +63,13 @@ fn decode(
     len: usize,
     total: usize,
 ) -> Body
-    requires { ⌜ Decodable f (now symbols) len (now grid) repairs total ⌝ }
+    requires { ⌜ (now readings ≡ readingTable) × Decodable f (now symbols) len (now grid) repairs total ⌝ }
     ensures { λ r. ⌜ Decoded f (now (symbols .entry)) len (r .payload) (r .answer) ⌝ }
 {
     let header = f.header;
     let n = layout::nibbles_of(f, len);
     let mut nibbles = [0u8; NIBBLES];
-    let readings = codeword::readings();
-    let progress = reading::read_data(&readings, f, grid, symbols, n - header, &mut nibbles);
+    let progress = reading::read_data(readings, f, grid, symbols, n - header, &mut nibbles);
     let end = header + progress.end;
     if end < n {
         return Body {
@@ -111,6 +112,7 @@ fn copy(payload: [u8; LONGEST], len: usize, out: &mut [u8])
 
 // Reads the frame behind a header that was read.
 fn read_body(
+    readings: &[[u8; 8]; 60],
     f: Frame,
     grid: &[[bool; 8]; 12],
     repairs: usize,
@@ -118,7 +120,7 @@ fn read_body(
     len: usize,
     out: &mut [u8],
 ) -> Received
-    requires { ⌜ Headed f (now symbols) len (now grid) repairs ⌝ }
+    requires { ⌜ (now readings ≡ readingTable) × Headed f (now symbols) len (now grid) repairs ⌝ }
     ensures { λ r. ⌜ Bodied f (now (symbols .entry)) len (now (out .entry)) (now (out .exit)) r ⌝ }
 {
     let total = layout::symbols_of(f, len);
@@ -141,7 +143,7 @@ fn read_body(
             place: over,
         };
     }
-    let body = decode(f, grid, repairs, symbols, len, total);
+    let body = decode(readings, f, grid, repairs, symbols, len, total);
     let payload = body.payload;
     let answer = body.answer;
     match answer {
@@ -153,13 +155,15 @@ fn read_body(
     }
 }
 
-// Reads a frame whose checks before the header are passed.
+// Reads a frame whose checks before the header are passed. The table of readings is lent from here to header and data,
+// since a constant array is copied at each use.
 fn read_on(sf: u8, low: bool, symbols: &[u16], out: &mut [u8]) -> Received
     requires { ⌜ Entered Passed sf (now symbols) ⌝ }
     ensures { λ r. ⌜ Reading sf low (now (symbols .entry)) (now (out .entry)) (now (out .exit)) r ⌝ }
 {
     let grid = reading::first_grid(sf, symbols);
-    let opened = opening::header_of(&grid);
+    let readings = codeword::readings();
+    let opened = opening::header_of(&readings, &grid);
     let heading = opened.heading;
     match heading {
         Heading::Refused { number, place } => Received::Refused { number, place },
@@ -171,6 +175,7 @@ fn read_on(sf: u8, low: bool, symbols: &[u16], out: &mut [u8]) -> Received
                 checked: h.checked,
             };
             read_body(
+                &readings,
                 counting::frame_of(s),
                 &grid,
                 opened.repairs,

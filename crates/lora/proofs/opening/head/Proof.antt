@@ -25,6 +25,9 @@ first-grid-requires c κs =
     let (low, high, eight, is) = passed c in
     (low, high, eight)
 
+readings-requires : tie.Need-readings-requires
+readings-requires c κs = search needs
+
 header-of-requires : tie.Need-header-of-requires
 header-of-requires c κs = search needs
 
@@ -33,9 +36,9 @@ returns c = sym (rw (c .before .entry .given .1) at (c .before .before .before .
 
 returns-2 : tie.Need-returns-2
 returns-2 c =
-    let e = c .before .before .before in
-    let (low, high, eight, is) = passed e in
-    c .header-of .ensures .says ∙ header-same _ _ (grid-found _ _ low (c .before .before .first-grid .ensures)) ∙ sym is
+    let g = c .before .before .before .before in
+    let (low, high, eight, is) = passed (g .before) in
+    c .header-of .ensures .says ∙ header-same _ _ (grid-found _ _ low (g .first-grid .ensures)) ∙ sym is
 
 pub head-spec : {M : Type 1} → statement M
 head-spec =
@@ -45,6 +48,7 @@ head-spec =
     enum-known-entry
     enum-told
     first-grid-requires
+    readings-requires
     header-of-requires
     returns
     returns-2)

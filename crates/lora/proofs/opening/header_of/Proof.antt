@@ -8,9 +8,6 @@ use borrow.Author.Needs.{needs}
 use Rattle.lora.proofs.opening.header_of.Statement.{statement}
 use Rattle.lora.proofs.opening.header_of.Tie as tie
 
-readings-requires : tie.Need-readings-requires
-readings-requires c κs = search needs
-
 read-rows-requires : tie.Need-read-rows-requires
 read-rows-requires c κs = search needs
 
@@ -21,20 +18,20 @@ returns c =
       counts = λ h e. absurd (let z : _≡_ {A = ℕ} 0 1 = cc in omega arith);
     }
 
-array-read-t14 : tie.Need-array-read-t14
-array-read-t14 c = search needs
+array-read-t12 : tie.Need-array-read-t12
+array-read-t12 c = search needs
 
-array-read-t17 : tie.Need-array-read-t17
-array-read-t17 c = search needs
+array-read-t15 : tie.Need-array-read-t15
+array-read-t15 c = search needs
 
-array-read-t20 : tie.Need-array-read-t20
-array-read-t20 c = search needs
+array-read-t18 : tie.Need-array-read-t18
+array-read-t18 c = search needs
 
-array-read-t23 : tie.Need-array-read-t23
-array-read-t23 c = search needs
+array-read-t21 : tie.Need-array-read-t21
+array-read-t21 c = search needs
 
-array-read-t26 : tie.Need-array-read-t26
-array-read-t26 c = search needs
+array-read-t24 : tie.Need-array-read-t24
+array-read-t24 c = search needs
 
 judge-requires : tie.Need-judge-requires
 judge-requires c κs = search needs
@@ -55,14 +52,13 @@ pub header-of-spec : {M : Type 1} → statement M
 header-of-spec =
     tie.close
     (tie.spec
-    readings-requires
     read-rows-requires
     returns
-    array-read-t14
-    array-read-t17
-    array-read-t20
-    array-read-t23
-    array-read-t26
+    array-read-t12
+    array-read-t15
+    array-read-t18
+    array-read-t21
+    array-read-t24
     judge-requires
     said-requires
     returns-2)

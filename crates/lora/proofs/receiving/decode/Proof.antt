@@ -14,7 +14,7 @@ use Rattle.lora.proofs.receiving.decode.Tie as tie
 
 -- the count of nibbles, and how the function was called, from behind the run
 abbrev counted : tie.After-read-data → tie.After-nibbles-of
-counted c = c .before .before .before .before
+counted c = c .before .before
 
 abbrev start : tie.After-read-data → tie.Start
 start c = counted c .before .before
@@ -26,8 +26,8 @@ unfolding blank
 run c =
     let s = start c in
     record {
-      valid = s .pre .headed .valid;
-      header = s .pre .headed .counts;
+      valid = s .pre .1 .headed .valid;
+      header = s .pre .1 .headed .counts;
       walk = rw (data-is (s .args .f) (s .args .len) (counted c .nibbles-of .ensures)) at (c .read-data .ensures);
     }
 
@@ -35,7 +35,7 @@ run c =
 few : (c : tie.After-read-data) → c .read-data .result .end ≤ 514
 few c =
     let s = start c in
-    omega (arith, run-le (run c), data-le (s .args .len) (s .args .f .checked) (s .pre .headed .short))
+    omega (arith, run-le (run c), data-le (s .args .len) (s .args .f .checked) (s .pre .1 .headed .short))
 
 -- where it did not end early all codewords were read
 whole : (c : tie.Else1) → let a = start (c .before .before) .args in nibblesOf (a .f) (a .len) ≤ a .f .header + c .before .before .read-data .result .end
@@ -44,30 +44,27 @@ whole c = omega (arith, c .if1 .left, counted (c .before .before) .nibbles-of .e
 nibbles-of-requires : tie.Need-nibbles-of-requires
 nibbles-of-requires c κs = search needs
 
-readings-requires : tie.Need-readings-requires
-readings-requires c κs = search needs
-
 sub-read-data : tie.Need-sub-read-data
 unfolding nibblesOf
-sub-read-data c = omega (arith, c .before .before .nibbles-of .ensures)
+sub-read-data c = omega (arith, c .nibbles-of .ensures)
 
 read-data-requires : tie.Need-read-data-requires
 unfolding symbolsOf
 read-data-requires c κs =
-    let r = c .before .before in
-    let s = r .before .before .before in
-    let v = s .pre .headed .valid in
-    let e = whole-is (s .args .f) (s .args .len) (r .before .nibbles-of .ensures) in (
-      r .readings .ensures,
+    let r = c .before in
+    let s = r .before .before in
+    let v = s .pre .1 .headed .valid in
+    let e = whole-is (s .args .f) (s .args .len) (r .nibbles-of .ensures) in (
+      s .pre .0,
       v,
-      s .pre .headed .first,
-      rw e (nibbles-le (s .args .f) (s .args .len) v (s .pre .headed .short)),
-      rw e (omega (arith, s .pre .whole, s .pre .there)),
+      s .pre .1 .headed .first,
+      rw e (nibbles-le (s .args .f) (s .args .len) v (s .pre .1 .headed .short)),
+      rw e (omega (arith, s .pre .1 .whole, s .pre .1 .there)),
       refl,
     )
 
 add-end : tie.Need-add-end
-add-end c = omega (arith, few (c .before), start (c .before) .pre .headed .valid .header-high)
+add-end c = omega (arith, few (c .before), start (c .before) .pre .1 .headed .valid .header-high)
 
 refusal-at-requires : tie.Need-refusal-at-requires
 refusal-at-requires c κs = search needs
@@ -83,13 +80,13 @@ returns c =
 payload-of-nibbles-requires : tie.Need-payload-of-nibbles-requires
 payload-of-nibbles-requires c κs =
     let r = c .before .before .before in
-    let h = start r .pre .headed in
+    let h = start r .pre .1 .headed in
     (h .valid .header-high, h .short, run-small (run r))
 
 sum-holds-requires : tie.Need-sum-holds-requires
 sum-holds-requires c κs =
     let r = c .before .before .before .before .before in
-    let h = start r .pre .headed in
+    let h = start r .pre .1 .headed in
     (h .valid, h .short, run-small (run r))
 
 returns-2 : tie.Need-returns-2
@@ -101,11 +98,11 @@ returns-2 c =
       held = search needs;
     }
 
-add-t17 : tie.Need-add-t17
-add-t17 c =
+add-t15 : tie.Need-add-t15
+add-t15 c =
     let p = c .before .before .before .before in
     let r = p .before .before .before .before in
-    omega (arith, run-few (run r), few r, start r .pre .headed .valid .header-high)
+    omega (arith, run-few (run r), few r, start r .pre .1 .headed .valid .header-high)
 
 returns-3 : tie.Need-returns-3
 returns-3 c =
@@ -113,7 +110,7 @@ returns-3 c =
     let e = p .before .before in
     let w = run (e .before .before) in
     record {
-      says = rw (start (e .before .before) .pre .whole) (says-payload w _ (blank 255 0) (whole e) (p .payload-of-nibbles .ensures) (sym (c .before .before .sum-holds .ensures) ∙ not-false _ (c .before .if2 .left)));
+      says = rw (start (e .before .before) .pre .1 .whole) (says-payload w _ (blank 255 0) (whole e) (p .payload-of-nibbles .ensures) (sym (c .before .before .sum-holds .ensures) ∙ not-false _ (c .before .if2 .left)));
       held = p .payload-of-nibbles .ensures ∙ run-payload w (whole e) (blank 255 0);
     }
 
@@ -122,7 +119,6 @@ decode-spec =
     tie.close
     (tie.spec
     nibbles-of-requires
-    readings-requires
     sub-read-data
     read-data-requires
     add-end
@@ -131,5 +127,5 @@ decode-spec =
     payload-of-nibbles-requires
     sum-holds-requires
     returns-2
-    add-t17
+    add-t15
     returns-3)

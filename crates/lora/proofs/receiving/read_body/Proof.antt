@@ -49,7 +49,7 @@ returns-2 c = record { answer = says-five _ _ _ _ (c .before .before .symbols-of
 first-over-requires : tie.Need-first-over-requires
 first-over-requires c κs =
     let s = c .before .before .before .before .before in
-    (s .pre .valid .sf-high, omega (arith, c .before .before .symbols-of .ensures, symbols-ge (s .args .f) (s .args .len)), c .if2 .left)
+    (s .pre .1 .valid .sf-high, omega (arith, c .before .before .symbols-of .ensures, symbols-ge (s .args .f) (s .args .len)), c .if2 .left)
 
 returns-3 : tie.Need-returns-3
 returns-3 c =
@@ -73,7 +73,7 @@ copy-requires c κs =
     let a = c .before .before in
     let f = a .before .before .before .before .before in
     let s = start f in
-    (omega (arith, length-is a, s .pre .short), omega (arith, length-is a, f .before .before .if1 .left))
+    (omega (arith, length-is a, s .pre .1 .short), omega (arith, length-is a, f .before .before .if1 .left))
 
 returns-4 : tie.Need-returns-4
 returns-4 c =

@@ -10,15 +10,24 @@ use borrow.Author.Needs.{needs}
 use Rattle.lora.proofs.receiving.read_on.Statement.{statement}
 use Rattle.lora.proofs.receiving.read_on.Tie as tie
 
+-- the grid of block 0, and how the function was called, from behind the header
+abbrev gridded : tie.After-header-of → tie.After-first-grid
+gridded c = c .before .before .before .before
+
+abbrev start : tie.After-header-of → tie.Start
+start c = gridded c .before .before .before
+
 -- what is read in block 0 is what head says
-head-is : (c : tie.After-header-of) → let a = c .before .before .before .before .before .args in c .header-of .result .heading ≡ headOf (a .sf) (now (a .symbols))
+head-is : (c : tie.After-header-of) → let a = start c .args in c .header-of .result .heading ≡ headOf (a .sf) (now (a .symbols))
 head-is c =
-    let s = c .before .before .before .before .before in
-    let (low, high, eight, is) = s .pre in
-    c .header-of .ensures .says ∙ header-same _ _ (grid-found _ _ low (c .before .before .first-grid .ensures)) ∙ sym is
+    let (low, high, eight, is) = start c .pre in
+    c .header-of .ensures .says ∙ header-same _ _ (grid-found _ _ low (gridded c .first-grid .ensures)) ∙ sym is
 
 first-grid-requires : tie.Need-first-grid-requires
 first-grid-requires c κs = search needs
+
+readings-requires : tie.Need-readings-requires
+readings-requires c κs = search needs
 
 header-of-requires : tie.Need-header-of-requires
 header-of-requires c κs = search needs
@@ -34,14 +43,16 @@ frame-of-requires c κs = search needs
 
 read-body-requires : tie.Need-read-body-requires
 read-body-requires c κs =
-    let g = c .before .before .before .before in
+    let g = c .before .before .before .before .before in
     let h = g .before .before in
-    let s = h .before .before .before .before .before in
-    let grid = h .before .before .first-grid .ensures in
+    let s = start h in
+    let grid = gridded h .first-grid .ensures in
     let says = g .heading2 .given .1 in
-    let low = s .pre .0 in
-    rw (c .before .before .frame-of .ensures)
-    (headed (s .args .sf) (s .args .low) _ _ (head-sound _ _ _ (sym (head-is h) ∙ says)) grid (h .header-of .ensures .counts _ says ∙ grid-repairs _ _ low grid))
+    let low = s .pre .0 in (
+      h .before .before .before .readings .ensures,
+      rw (c .before .before .frame-of .ensures)
+          (headed (s .args .sf) (s .args .low) _ _ (head-sound _ _ _ (sym (head-is h) ∙ says)) grid (h .header-of .ensures .counts _ says ∙ grid-repairs _ _ low grid)),
+    )
 
 returns : tie.Need-returns
 unfolding readOf
@@ -54,7 +65,7 @@ returns-2 : tie.Need-returns-2
 unfolding readOf
 returns-2 c =
     let f = c .before .before .before .before .before in
-    let g = f .before .before in
+    let g = f .before .before .before in
     let h = g .before .before in
     let b = rw (f .frame-of .ensures) at (c .before .before .read-body .ensures) in
     record {
@@ -67,6 +78,7 @@ read-on-spec =
     tie.close
     (tie.spec
     first-grid-requires
+    readings-requires
     header-of-requires
     enum-known-heading
     enum-known-heading-2
