@@ -1,13 +1,12 @@
 -- Where a word stands in the table of readings, and what it is read as there.
 -- Assumes nothing.
 use mathlib.Core.Path.{_≡_, refl, ap, _∙_}
-use mathlib.Core.List.{List, []}
-use Prim.Native.Nat.{ℕ, zero, suc, _+_, _-_, _*_, _/_, _%_, _^_, _≤_, _<_}
+use mathlib.Core.List.{List}
+use Prim.Native.Nat.{ℕ, zero, suc, _+_, _-_, _^_, _≤_, _<_}
 use native.Mathlib.Nat.{pow-le-pow-right}
 use native.Mathlib.Omega.{arith}
 use borrow.Author.Tests.{lt-ltb, le-ltb}
 use lib.ListN.{getD}
-use Rattle.bits.specs.Tab.{tab}
 use Rattle.bits.proofs.Tabs.{getD-tab}
 use Rattle.codeword.specs.Codeword.{readAs, nibbleOf}
 use Rattle.codeword.specs.Ranges.{Rate}
@@ -46,14 +45,9 @@ module _ {cr w k : ℕ} (rate : Rate cr) (word : w < 2 ^ (4 + cr)) (at : k ≡ p
   place-lt = reading-at cr w k rate word behind .1
 
   -- the entry found there
-  pub entry-is : {table : List (List ℕ)} → table ≡ readingTable → getD (getD table (k / 8) []) (k % 8) 0 ≡ readingOf cr w
+  pub entry-is : {table : List ℕ} → table ≡ readingTable → getD table k 0 ≡ readingOf cr w
   unfolding readingTable
-  entry-is {table} t =
-      let line : getD (tab 60 (λ (i : ℕ). tab 8 (λ (j : ℕ). readingAt (8 * i + j)))) (k / 8) [] ≡ tab 8 (λ (j : ℕ). readingAt (8 * (k / 8) + j)) =
-      getD-tab 60 _ (k / 8) [] (omega (arith, place-lt)) in
-      let e : 8 * (k / 8) + k % 8 ≡ k = omega arith in
-      ap (λ (l : List (List ℕ)). getD (getD l (k / 8) []) (k % 8) 0) t ∙ ap (λ (l : List ℕ). getD l (k % 8) 0) line
-      ∙ getD-tab 8 (λ (j : ℕ). readingAt (8 * (k / 8) + j)) (k % 8) 0 (omega arith) ∙ ap readingAt e ∙ reading-at cr w k rate word behind .0
+  entry-is {table} t = ap (λ (l : List ℕ). getD l k 0) t ∙ getD-tab 480 readingAt k 0 place-lt ∙ reading-at cr w k rate word behind .0
 
 -- what a number is the reading of
 module _ (cr w : ℕ) {e : ℕ} (entry : e ≡ readingOf cr w) where

@@ -2,7 +2,7 @@
 -- Assumes nothing.
 use mathlib.Core.Bool.{cond}
 use mathlib.Core.List.{List}
-use Prim.Native.Nat.{ℕ, _+_, _-_, _*_}
+use Prim.Native.Nat.{ℕ, _+_, _-_}
 use lib.Dec.{ltb}
 use Rattle.bits.specs.Tab.{tab}
 use Rattle.codeword.specs.Codeword.{readAs}
@@ -23,6 +23,5 @@ unfoldable pub readingAt : ℕ → ℕ
 readingAt k =
     cond (ltb k 32) (readingOf 1 k) (cond (ltb k 96) (readingOf 2 (k - 32)) (cond (ltb k 224) (readingOf 3 (k - 96)) (readingOf 4 (k - 224))))
 
--- 60 lines of 8
-unfoldable pub readingTable : List (List ℕ)
-readingTable = tab 60 (λ i. tab 8 (λ j. readingAt (8 * i + j)))
+unfoldable pub readingTable : List ℕ
+readingTable = tab 480 readingAt

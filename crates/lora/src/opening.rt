@@ -8,6 +8,7 @@ ghost use Rattle.reading.specs.Stages.{rowsFrom};
 ghost use Rattle.lora.specs.Head.{firstOver, said, headOf};
 ghost use Rattle.lora.specs.Stages.{Entered, Opening};
 use crate::Heading;
+use codeword::WORDS;
 use header::Verdict;
 use reading::NIBBLES;
 
@@ -94,7 +95,7 @@ pub struct Opened {
 }
 
 // Reads the header's codewords in the grid of block 0.
-pub fn header_of(readings: &[[u8; 8]; 60], grid: &[[bool; 8]; 12]) -> Opened
+pub fn header_of(readings: &[u8; WORDS], grid: &[[bool; 8]; 12]) -> Opened
     requires { ⌜ now readings ≡ readingTable ⌝ }
     ensures { λ r. ⌜ Opening (rowsFrom 4 (now (grid .entry)) 0) (r .heading) (r .repairs) ⌝ }
 {

@@ -16,6 +16,7 @@ use crate::Settings;
 use crate::counting;
 use crate::opening;
 use crate::opening::Entry;
+use codeword::WORDS;
 use layout::Frame;
 use layout::LONGEST;
 use reading::NIBBLES;
@@ -55,7 +56,7 @@ struct Body {
 
 // Reads the data codewords of the frame, which is there whole and in range, behind a header with so many repairs.
 fn decode(
-    readings: &[[u8; 8]; 60],
+    readings: &[u8; WORDS],
     f: Frame,
     grid: &[[bool; 8]; 12],
     repairs: usize,
@@ -112,7 +113,7 @@ fn copy(payload: [u8; LONGEST], len: usize, out: &mut [u8])
 
 // Reads the frame behind a header that was read.
 fn read_body(
-    readings: &[[u8; 8]; 60],
+    readings: &[u8; WORDS],
     f: Frame,
     grid: &[[bool; 8]; 12],
     repairs: usize,

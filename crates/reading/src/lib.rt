@@ -10,6 +10,7 @@ ghost use Rattle.layout.specs.Ranges.{Valid, Fits};
 ghost use Rattle.reading.specs.Found.{dataFound};
 ghost use Rattle.reading.specs.Payload.{byteOfNibbles, payloadByte, sentChecksum};
 ghost use Rattle.reading.specs.Stages.{symbolWord, gridOfSymbols, rowsFrom, laterFound, Walk, listed};
+use codeword::WORDS;
 use layout::Block;
 use layout::Frame;
 use layout::LONGEST;
@@ -64,7 +65,7 @@ pub fn first_grid(sf: u8, symbols: &[u16]) -> [[bool; 8]; 12]
 // Reads n codewords of a block's grid, from its row `from` on, into the nibbles from the place at on, up to the first that
 // can't be read.
 pub fn read_rows(
-    readings: &[[u8; 8]; 60],
+    readings: &[u8; WORDS],
     rate: u8,
     g: &[[bool; 8]; 12],
     from: usize,
@@ -91,7 +92,7 @@ pub fn read_rows(
 
 // Reads the codewords behind block 0, in a frame of n codewords, up to the first that can't be read.
 fn read_later(
-    readings: &[[u8; 8]; 60],
+    readings: &[u8; WORDS],
     f: Frame,
     symbols: &[u16],
     n: usize,
@@ -126,7 +127,7 @@ fn read_later(
 // Reads the n data codewords of a frame, those behind its header, up to the first that can't be read; `first` is the grid of
 // block 0.
 pub fn read_data(
-    readings: &[[u8; 8]; 60],
+    readings: &[u8; WORDS],
     f: Frame,
     first: &[[bool; 8]; 12],
     symbols: &[u16],

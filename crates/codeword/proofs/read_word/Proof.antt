@@ -1,8 +1,7 @@
 -- The entry at the word's place says what the word is read as: taken, repaired or unreadable.
 -- Assumes nothing.
 use mathlib.Core.Path.{_≡_, ap, _∙_}
-use Prim.Native.Nat.{ℕ, _+_, _-_, _/_, _%_, _^_}
-use mathlib.Core.List.{[]}
+use Prim.Native.Nat.{ℕ, _+_, _-_, _^_}
 use native.Mathlib.Omega.{arith}
 use lib.ListN.{getD}
 use borrow.Author.Needs.{needs}
@@ -25,7 +24,7 @@ place c = ap (λ (k : ℕ). k - 32 + c .wide2 .result) (power (c .before)) ∙ a
 
 -- the entry there is the number of what the word is read as
 entry : (c : tie.After-wide2) → let k = c .before .wide16 .result - 32 + c .wide2 .result in let a = begin c .args in
-    getD (getD (a .readings .now) (k / 8) []) (k % 8) 0 ≡ readingOf (a .cr) (a .w)
+    getD (a .readings .now) k 0 ≡ readingOf (a .cr) (a .w)
 entry c = let (table, rate, word) = begin c .pre in entry-is rate word (place c) table
 
 wide-requires : tie.Need-wide-requires
@@ -49,14 +48,8 @@ wide-requires-2 c κs = search needs
 add-place : tie.Need-add-place
 add-place c = search needs
 
-mul-entry : tie.Need-mul-entry
-mul-entry c = search needs
-
-index-1-entry : tie.Need-index-1-entry
-index-1-entry c = let (table, rate, word) = begin c .pre in omega (arith, place-lt rate word (place c))
-
-index-2-entry : tie.Need-index-2-entry
-index-2-entry c = search needs
+element-copy-out-entry : tie.Need-element-copy-out-entry
+element-copy-out-entry c = let (table, rate, word) = begin c .pre in omega (arith, place-lt rate word (place c))
 
 returns : tie.Need-returns
 returns c = read-taken _ _ (entry (c .before .before)) (c .if1 .taken)
@@ -78,9 +71,7 @@ read-word-spec =
     sub-place
     wide-requires-2
     add-place
-    mul-entry
-    index-1-entry
-    index-2-entry
+    element-copy-out-entry
     returns
     returns-2
     returns-3)
