@@ -13,7 +13,7 @@ divisor = 2 ^ 16 + 2 ^ 12 + 2 ^ 5 + 1
 
 -- a polynomial of degree 16 at most less the divisor where that goes into it
 unfoldable pub reduced : ℕ → ℕ
-reduced p = cond (ltb p 65536) p (bitXor p divisor)
+reduced p = cond (ltb p (2 ^ 16)) p (bitXor p divisor)
 
 -- the remainder of p x + b, from the remainder r of p
 unfoldable pub oneBit : ℕ → ℕ → ℕ

@@ -45,16 +45,16 @@ byte-more byte at p room filled q =
 
 -- the payload's bytes copied, whitened and put
 pub payload-put : {bytes white next : List ℕ} (payload : List ℕ) (at : ℕ) (d e : List ℕ) → bytes ≡ over (length payload) (λ i. getD payload i 0) e
-    → white ≡ over (length payload) (whitened bytes) bytes → next ≡ overAt at (2 * length payload) (nibbleOfBytes (λ p. getD white p 0)) d
-    → next ≡ overAt at (2 * length payload) (nibbleOfBytes (whitened payload)) d
+    → white ≡ over (length payload) (whitened (λ i. getD bytes i 0)) bytes → next ≡ overAt at (2 * length payload) (nibbleOfBytes (λ p. getD white p 0)) d
+    → next ≡ overAt at (2 * length payload) (nibbleOfBytes (whitened (λ i. getD payload i 0))) d
 unfolding nibbleOfBytes
 payload-put {bytes} {white} payload at d e copied turned q =
     q ∙ overAt-cong at (2 * length payload) _ _ d (λ i h. ap (λ (x : ℕ). halfOf x i) (same (i / 2) (omega arith)))
   where
-    same : (p : ℕ) → p < length payload → getD white p 0 ≡ whitened payload p
+    same : (p : ℕ) → p < length payload → getD white p 0 ≡ whitened (λ i. getD payload i 0) p
     same p h =
         let byte : getD bytes p 0 ≡ getD payload p 0 = rw copied (getD-over (length payload) (λ i. getD payload i 0) e p 0 h) in
-        rw turned (getD-over (length payload) (whitened bytes) bytes p 0 h ∙ ap (λ (x : ℕ). bitXor x (whitening p)) byte)
+        rw turned (getD-over (length payload) (whitened (λ i. getD bytes i 0)) bytes p 0 h ∙ ap (λ (x : ℕ). bitXor x (whitening p)) byte)
 
 -- the checksum's bytes, low byte first
 pub checksum-put : {l next : List ℕ} (checksum at : ℕ) (d : List ℕ) → at + 4 ≤ length d → l ≡ overAt at 2 (halfOf (checksum % 256)) d
@@ -91,7 +91,7 @@ module _ (header payload : List ℕ) (checksum : ℕ) (flag : Bool) where
   unfolding dataNibbles
   data-more = omega arith
 
-  at-payload : (i : ℕ) → i < 2 * length payload → nibbleOfBytes (whitened payload) i ≡ nibble (length header + i)
+  at-payload : (i : ℕ) → i < 2 * length payload → nibbleOfBytes (whitened (λ i. getD payload i 0)) i ≡ nibble (length header + i)
   unfolding nibbleOfBytes bodyNibble dataNibble dataByte
   at-payload i h =
       rw (← at-body i, lt-ltb i (dataNibbles (length payload) flag) (omega (arith, data-more)), lt-ltb (i / 2) (length payload) (omega arith))
@@ -107,7 +107,7 @@ module _ (header payload : List ℕ) (checksum : ℕ) (flag : Bool) where
       record { is = is; long = ap length is ∙ length-over (length header) _ d h; within = h }
 
   pub payload-laid : {d l next : List ℕ} → behind ≤ length d → Filled nibble d (length header) l
-      → next ≡ overAt (length header) (2 * length payload) (nibbleOfBytes (whitened payload)) l → Filled nibble d behind next
+      → next ≡ overAt (length header) (2 * length payload) (nibbleOfBytes (whitened (λ i. getD payload i 0))) l → Filled nibble d behind next
   payload-laid h p q = filled-on p h q at-payload
 
   -- the checksum behind the payload

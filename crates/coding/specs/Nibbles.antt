@@ -13,7 +13,7 @@ use Rattle.whitening.specs.Whitening.{whitened}
 -- payload bytes are whitened; the checksum follows, low byte first, and is not
 unfoldable pub dataByte : List ℕ → ℕ → ℕ → ℕ
 dataByte payload checksum p =
-    cond (ltb p (length payload)) (whitened payload p)
+    cond (ltb p (length payload)) (whitened (λ i. getD payload i 0) p)
     (cond (eqb p (length payload)) (checksum % 256) (checksum / 256))
 
 -- a byte gives its low nibble first

@@ -52,7 +52,7 @@ fn put_bytes(bytes: &[u8; LONGEST], count: usize, at: usize, nibbles: &mut [u8; 
 // The payload behind the header, whitened.
 fn put_payload(payload: &[u8], at: usize, nibbles: &mut [u8; PLACES])
     requires { ⌜ (length (now payload) ≤ 255) × (at ≤ 5) × (length (now nibbles) ≡ places) ⌝ }
-    ensures { λ _. ⌜ now (nibbles .exit) ≡ overAt at (2 * length (now (payload .entry))) (nibbleOfBytes (whitened (now (payload .entry)))) (now (nibbles .entry)) ⌝ }
+    ensures { λ _. ⌜ now (nibbles .exit) ≡ overAt at (2 * length (now (payload .entry))) (nibbleOfBytes (whitened (λ p. getD (now (payload .entry)) p 0))) (now (nibbles .entry)) ⌝ }
 {
     let mut bytes = [0u8; LONGEST];
     copy(payload, &mut bytes);

@@ -21,9 +21,9 @@ use Rattle.header.specs.declared.Header.{Header}
 use Rattle.layout.specs.Layout.{firstBlock, dataNibbles, nibblesOf, symbolsOf}
 use Rattle.layout.specs.Ranges.{Valid}
 use Rattle.layout.specs.declared.Frame.{Frame}
-use Rattle.reading.specs.Found.{foundAt, dataFound, unreadableAt, repairedAt}
+use Rattle.reading.specs.Found.{foundAt, unreadableAt, repairedAt}
 use Rattle.reading.specs.Payload.{payloadByte, sentChecksum}
-use Rattle.reading.specs.Stages.{gridOfSymbols, listed, Walk}
+use Rattle.reading.specs.Stages.{gridOfSymbols, dataFound, listed, Walk}
 use Rattle.reading.proofs.ReadingLaws.{blank-small, nibble-data-lt, walk-nibbles, walk-small, payload-cong, checksum-cong}
 use Rattle.lora.specs.Head.{headerFound}
 use Rattle.lora.specs.Read.{overInRest, unreadableInData, refusalAt, nibbleFound, byteFound, sumHolds, repairsOf, acceptedOf, bodyOf, frameSaid}

@@ -15,6 +15,7 @@ use Rattle.layout.specs.Layout.{blockOf, blockOfCodeword, dataNibbles, nibblesO
 use Rattle.layout.specs.declared.Frame.{Frame}
 use Rattle.reading.specs.Found.{foundAt, unreadableAt, repairedAt, nibbleAt}
 use Rattle.reading.specs.Payload.{payloadByte, sentChecksum}
+use Rattle.lora.specs.Count.{frameOf}
 use Rattle.lora.specs.Head.{firstOver, headOf}
 use Rattle.lora.specs.declared.Accepted.{Accepted}
 use Rattle.lora.specs.declared.Heading.{Heading}
@@ -65,7 +66,7 @@ bodyOf F symbols room len =
 
 -- the frame whose header says this CR and this checksum flag
 abbrev pub frameSaid : ℕ → Bool → ℕ → Bool → Frame
-frameSaid sf low cr flag = record { sf = sf; low = low; cr = cr; checked = flag; header = 5 }
+frameSaid sf low cr flag = frameOf (record { sf = sf; low = low; cr = cr; checked = flag })
 
 abbrev pub onward : Heading → ℕ → Bool → List ℕ → ℕ → Received
 onward (HeadRefused number place) sf low symbols room = Refused number place

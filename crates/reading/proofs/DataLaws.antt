@@ -10,8 +10,8 @@ use Rattle.layout.specs.declared.Block.{Block}
 use Rattle.layout.specs.declared.Frame.{Frame}
 use Rattle.layout.specs.Layout.{rowsOfFirst, blockOf, firstBlock, remaining}
 use Rattle.layout.specs.Ranges.{Valid}
-use Rattle.reading.specs.Found.{foundAt, dataFound}
-use Rattle.reading.specs.Stages.{gridOfSymbols, rowsFrom, laterFound, Walk}
+use Rattle.reading.specs.Found.{foundAt}
+use Rattle.reading.specs.Stages.{gridOfSymbols, rowsFrom, dataFound, laterFound, Walk}
 use Rattle.reading.proofs.ReadLoop.{walk-range, walk-long, walk-on}
 use Rattle.reading.proofs.ReadingLaws.{walk-same}
 use Rattle.reading.proofs.RowLaws.{row-found}

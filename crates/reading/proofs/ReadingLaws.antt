@@ -24,9 +24,9 @@ use Rattle.layout.specs.Layout.{blockOf, firstBlock}
 use Rattle.layout.specs.Ranges.{Valid}
 use Rattle.layout.proofs.LayoutLaws.{codeword-in, in-first}
 use Rattle.whitening.specs.Whitening.{whitening, whitened}
-use Rattle.reading.specs.Found.{wordInBlock, foundInBlock, foundAt, dataFound, unreadableAt, nibbleAt}
+use Rattle.reading.specs.Found.{wordInBlock, foundInBlock, foundAt, unreadableAt, nibbleAt}
 use Rattle.reading.specs.Payload.{byteOfNibbles, payloadByte, sentChecksum}
-use Rattle.reading.specs.Stages.{Walk}
+use Rattle.reading.specs.Stages.{dataFound, Walk}
 
 -- a received word has as many bits as its block has columns
 pub word-lt : (B : Block) (symbols : List ℕ) (i : ℕ) → wordInBlock B symbols i < 2 ^ (4 + B .rate)
@@ -99,7 +99,7 @@ module _ (h m : ℕ) (f g : ℕ → ℕ) (same : (i : ℕ) → i < m → f (h + 
 
 -- bytes listed and then whitened are the payload
 pub whitened-payload : (h len : ℕ) (nibble : ℕ → ℕ) (d : List ℕ) {raw : List ℕ} → raw ≡ over len (byteOfNibbles h nibble) d
-    → over len (whitened raw) raw ≡ over len (payloadByte h nibble) d
+    → over len (whitened (λ p. getD raw p 0)) raw ≡ over len (payloadByte h nibble) d
 unfolding payloadByte
 whitened-payload h len nibble d {raw} e =
     let bytes : ℕ → ℕ = byteOfNibbles h nibble in

@@ -26,10 +26,6 @@ foundAt F symbols i =
     let B : Block = blockOf F (blockOfCodeword F i) in
     foundInBlock B symbols (i - B .codeword)
 
--- what data codeword i is read as; the data stand behind the header
-unfoldable pub dataFound : Frame → List ℕ → ℕ → Found
-dataFound F symbols i = foundAt F symbols (F .header + i)
-
 -- whether codeword i can't be read, whether it is repaired, and its nibble
 abbrev pub unreadableAt : (ℕ → Found) → ℕ → Bool
 unreadableAt found i = isUnreadable (found i)

@@ -31,7 +31,10 @@ readRow rate g i = readAs rate (codewordOfGrid (4 + rate) g i)
 unfoldable pub rowsFrom : ℕ → List (List Bool) → ℕ → ℕ → Found
 rowsFrom rate g from i = readRow rate g (from + i)
 
--- what codeword i of those behind block 0 is read as
+-- what codeword i of the data, which stand behind the header, is read as, and of those behind block 0
+unfoldable pub dataFound : Frame → List ℕ → ℕ → Found
+dataFound F symbols i = foundAt F symbols (F .header + i)
+
 unfoldable pub laterFound : Frame → List ℕ → ℕ → Found
 laterFound F symbols i = foundAt F symbols (rowsOfFirst (F .sf) + i)
 

@@ -1,9 +1,7 @@
 -- Document 01, "Whitening".
 -- Assumes nothing.
-use mathlib.Core.List.{List}
 use Prim.Native.Nat.{ℕ, zero, suc, _+_, _*_, _%_}
 use lib.Bits.{bitXor}
-use lib.ListN.{getD}
 use Rattle.bits.specs.Bit.{bit}
 
 -- the last byte doubled, mod 256, plus the parity of its bits 7, 5, 4 and 3
@@ -16,5 +14,5 @@ whitening zero = 255
 whitening (suc i) = next (whitening i)
 
 -- payload bytes are XORed with w0, w1, ..
-abbrev pub whitened : List ℕ → ℕ → ℕ
-whitened bytes p = bitXor (getD bytes p 0) (whitening p)
+abbrev pub whitened : (ℕ → ℕ) → ℕ → ℕ
+whitened byte p = bitXor (byte p) (whitening p)

@@ -1,7 +1,7 @@
 // Whitening: payload bytes are XORed with the whitening bytes, and XORed again they are themselves.
 ghost use mathlib.Core.Path.{_≡_};
 ghost use Prim.Native.Nat.{_≤_};
-ghost use lib.ListN.{length};
+ghost use lib.ListN.{length, getD};
 ghost use Rattle.bits.specs.Tab.{over};
 ghost use Rattle.whitening.specs.Whitening.{whitened};
 
@@ -266,7 +266,7 @@ const TABLE: [u8; 255] = [
 // Whitens the first len of the bytes. A constant array is copied at each use: here once a call.
 pub fn whiten(bytes: &mut [u8; 255], len: usize)
     requires { ⌜ (len ≤ 255) × (length (now bytes) ≡ 255) ⌝ }
-    ensures { λ _. ⌜ now (bytes .exit) ≡ over len (whitened (now (bytes .entry))) (now (bytes .entry)) ⌝ }
+    ensures { λ _. ⌜ now (bytes .exit) ≡ over len (whitened (λ p. getD (now (bytes .entry)) p 0)) (now (bytes .entry)) ⌝ }
 {
     let table = TABLE;
     for p in 0..len {

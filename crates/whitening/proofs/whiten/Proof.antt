@@ -3,6 +3,7 @@
 use mathlib.Core.Path.{ap₂}
 use Prim.Native.Nat.{_-_, _≤_}
 use lib.Bits.{bitXor}
+use lib.ListN.{getD}
 use Rattle.bits.specs.Bit.{bit}
 use Rattle.bits.specs.Tab.{tab}
 use Rattle.bits.proofs.Tabs.{getD-tab}
@@ -13,7 +14,7 @@ use Rattle.whitening.proofs.whiten.Statement.{statement}
 use Rattle.whitening.proofs.whiten.Tie as tie
 
 abbrev Inv-loop : tie.InvT-loop
-Inv-loop bytes₀ len table p₀ bytes p = (p ≤ len) × Filled (whitened bytes₀) bytes₀ p bytes
+Inv-loop bytes₀ len table p₀ bytes p = (p ≤ len) × Filled (whitened (λ i. getD bytes₀ i 0)) bytes₀ p bytes
 
 abbrev μ-loop : tie.MeasureT-loop
 μ-loop bytes₀ len table p₀ bytes p = len - p
