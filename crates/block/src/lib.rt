@@ -19,7 +19,7 @@ pub fn value_of_word(n: usize, w: u16) -> u16
     c ^ (c >> 8)
 }
 
-pub fn word_of_value(v: u16) -> u16
+fn word_of_value(v: u16) -> u16
     ensures { λ r. ⌜ r ≡ wordOfValue v ⌝ }
 {
     v ^ (v / 2)
@@ -32,7 +32,7 @@ pub fn number_of_value(wide: bool, v: u16) -> u16
     if wide { 4 * v } else { v }
 }
 
-pub fn value_of_number(wide: bool, s: u16) -> u16
+fn value_of_number(wide: bool, s: u16) -> u16
     ensures { λ r. ⌜ r ≡ valueOfNumber wide s ⌝ }
 {
     if wide { s / 4 } else { s }

@@ -1,6 +1,6 @@
 -- Each column gains a bit at the bottom: a loop down from the last row.
 use mathlib.Core.Path.{_≡_, _∙_}
-use Prim.Native.Nat.{_≤_, _-_}
+use Prim.Native.Nat.{_≤_}
 use native.Mathlib.Omega.{arith}
 use Rattle.bits.specs.Tab.{over, blank}
 use Rattle.block.proofs.GridLoop.{columnFrom, column-lt, longer, columns-none, columns-more, columns-all}

@@ -75,7 +75,9 @@ add-blocks c = omega (arith, later-few c)
 
 put-frame-requires : tie.Need-put-frame-requires Inv-loop μ-loop
 unfolding blank
-put-frame-requires c κs = (headed (c .before .before .before .before .before .before), search needs, refl)
+put-frame-requires c κs =
+    let begin = c .before .before .before .before .before .before in
+    (headed begin, search needs, refl)
 
 rows-requires : tie.Need-rows-requires Inv-loop μ-loop
 rows-requires c κs = search needs
@@ -107,7 +109,9 @@ write-block-requires c κs =
     (fits b, omega (arith, s .pre .2, block-room _ (s .pre .0) (length (s .args .payload .now)) (b .before .before .loop .k) (b .block-at .ensures) (omega arith)))
 
 add-k : tie.Need-add-k Inv-loop μ-loop
-add-k c = omega (arith, blocks-few (put (c .before .before .before .before .before .before .before)))
+add-k c =
+    let b = c .before .before .before .before .before .before .before in
+    omega (arith, blocks-few (put b))
 
 loop-less : tie.Need-loop-less Inv-loop μ-loop
 loop-less c = search needs

@@ -1,6 +1,5 @@
 -- The nibbles that remain after block 0, divided by the rows of a block and rounded up.
 use native.Mathlib.Omega.{arith}
-use Prim.Native.Nat.{_-_}
 use mathlib.Core.Path.{sym}
 use Rattle.layout.specs.Layout.{laterBlocks, remaining, rowsOfFirst}
 use Rattle.layout.proofs.LayoutLaws.{rows-range, no-later}
