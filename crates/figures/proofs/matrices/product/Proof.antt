@@ -1,28 +1,26 @@
--- Each row is within the list: a loop over the rows.
-use mathlib.Core.Path.{_≡_}
+-- Each row is within the table: a loop over twelve of them.
 use Prim.Native.Nat.{_≤_, _-_}
-use lib.ListN.{length}
 use borrow.Author.Needs.{needs}
 use Rattle.figures.proofs.matrices.product.Statement.{statement}
 use Rattle.figures.proofs.matrices.product.Tie as tie
 
 abbrev Inv-loop : tie.InvT-loop
-Inv-loop number rows sum₀ rest₀ i₀ i-end sum rest i = (i-end ≡ length rows) × (i ≤ i-end)
+Inv-loop number first sum₀ rest₀ i₀ sum rest i = (first ≤ 28) × (i ≤ 12)
 
 abbrev μ-loop : tie.MeasureT-loop
-μ-loop number rows sum₀ rest₀ i₀ i-end sum rest i = i-end - i
+μ-loop number first sum₀ rest₀ i₀ sum rest i = 12 - i
 
 loop-holds : tie.Need-loop-holds Inv-loop μ-loop
 loop-holds c = search needs
 
-mul-times : tie.Need-mul-times Inv-loop μ-loop
-mul-times c = search needs
+add-sum : tie.Need-add-sum Inv-loop μ-loop
+add-sum c = search needs
 
-shared-slice-read-times : tie.Need-shared-slice-read-times Inv-loop μ-loop
-shared-slice-read-times c = search needs
+mul-sum : tie.Need-mul-sum Inv-loop μ-loop
+mul-sum c = search needs
 
-times-requires : tie.Need-times-requires Inv-loop μ-loop
-times-requires c κs = search needs
+array-read-sum : tie.Need-array-read-sum Inv-loop μ-loop
+array-read-sum c = search needs
 
 add-i : tie.Need-add-i Inv-loop μ-loop
 add-i c = search needs
@@ -43,9 +41,9 @@ product-spec =
     Inv-loop
     μ-loop
     loop-holds
-    mul-times
-    shared-slice-read-times
-    times-requires
+    add-sum
+    mul-sum
+    array-read-sum
     add-i
     loop-less
     loop-again
