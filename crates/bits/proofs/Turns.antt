@@ -6,7 +6,7 @@ use native.Mathlib.Nat.{mod-lt, mod-eq-of-lt, mod-eq-sub-mod, mod-add-mod, add-m
 use native.Mathlib.Decide.{decLt}
 use native.Mathlib.Omega.{arith}
 use Rattle.bits.specs.Bit.{bit, number}
-use Rattle.bits.proofs.Bits.{number-cong, number-mod, number-field, number-add}
+use Rattle.bits.proofs.Bits.{bit-lt, bit-number, number-bit, number-cong, number-mod, number-field, number-add}
 
 -- a place less than twice round
 pub once : (n at : ℕ) → n ≤ at → at < 2 * n → at % n ≡ at - n
@@ -56,3 +56,26 @@ number-turned n s w h =
     lower i l =
         let e : i + n - s ≡ n - s + i = omega arith in
         rw (e, mod-eq-of-lt (within i l))
+
+-- a word of n bits written twice, side by side, and cut from the place s on: turned s places downwards
+pub number-twice : (n s w : ℕ) → s ≤ n → w < 2 ^ n → (w + w * 2 ^ n) / 2 ^ s % 2 ^ n ≡ number n (λ k. bit ((s + k) % n) w)
+number-twice n s w h l = sym (number-field n s (w + w * 2 ^ n)) ∙ number-cong n _ _ (λ k m. rw twice (bit-number (n + n) round (λ i. bit-lt (i % n) w) (s + k) (omega arith)))
+  where
+    round : ℕ → ℕ
+    round k = bit (k % n) w
+
+    lower : number n round ≡ w
+    lower = number-cong n round (λ k. bit k w) (λ k m. ap (λ (i : ℕ). bit i w) (mod-eq-of-lt m)) ∙ number-bit n w l
+
+    upper : number n (λ k. round (n + k)) ≡ w
+    upper = number-cong n (λ k. round (n + k)) (λ k. bit k w) at ∙ number-bit n w l
+      where
+        at : (k : ℕ) → k < n → round (n + k) ≡ bit k w
+        at k m =
+            let e : n + k ≡ k + n = omega arith in
+            rw (e, add-mod-right k n, mod-eq-of-lt m)
+
+    twice : w + w * 2 ^ n ≡ number (n + n) round
+    twice =
+        let e : w + w * 2 ^ n ≡ w * 2 ^ n + w = omega arith in
+        e ∙ sym (number-add n n round ∙ ap₂ (λ (x y : ℕ). x * 2 ^ n + y) upper lower)

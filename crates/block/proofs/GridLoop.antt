@@ -4,7 +4,7 @@ use mathlib.Core.Path.{_≡_, refl, sym, ap, _∙_}
 use mathlib.Core.Bool.{Bool, true, false}
 use mathlib.Core.List.{List, []}
 use Prim.Native.Nat.{ℕ, _+_, _-_, _*_, _/_, _%_, _^_, _≤_, _<_}
-use native.Mathlib.Nat.{mod-lt, add-mod-mod, add-mul, mul-assoc, mul-comm, mul-le-mul-right, one-mul}
+use native.Mathlib.Nat.{mod-lt, mod-add-mod, add-mul, mul-assoc, mul-comm, mul-le-mul-right, one-mul}
 use native.Mathlib.Omega.{arith}
 use lib.Arith.{digits-div, digits-mod, mod-mul}
 use lib.ListN.{getD}
@@ -13,7 +13,7 @@ use Rattle.bits.specs.Bit.{bit, number, isSet, asBit}
 use Rattle.bits.specs.Tab.{tab, over, blank}
 use Rattle.bits.proofs.Bits.{bit-lt, bit-above, bit-number, number-lt, number-cong, number-cut, number-start, number-back, number-end, number-small, asBit-lt}
 use Rattle.bits.proofs.Tabs.{getD-over, over-blank, over-cong, over-none}
-use Rattle.bits.proofs.Turns.{number-turned}
+use Rattle.bits.proofs.Turns.{number-turned, number-twice}
 use Rattle.block.specs.Block.{placeInWord}
 use Rattle.block.specs.Grid.{row, grid, cell, wordOfGrid, wordsOfGrid, gridOfWords, codewordOfGrid}
 use Rattle.block.proofs.BlockLaws.{place-is}
@@ -85,10 +85,10 @@ moved-up a b q r pos h =
     ap (λ (x : ℕ). x % (a * b)) product ∙ digits-mod q below
 
 -- the lowest n bits of a word, turned s places upwards, and that they are small
-pub turned-by : (n s w : ℕ) {p : ℕ} → n ≤ 12 → s ≤ n → p ≡ 2 ^ n
+pub turned-up-by : (n s w : ℕ) {p : ℕ} → n ≤ 12 → s ≤ n → p ≡ 2 ^ n
     → (w % p * 2 ^ s % 4294967296 % p + w % p / 2 ^ (n - s) ≡ number n (λ i. bit ((i + n - s) % n) w)) × (w % p < 4096) × (w % p * 2 ^ s % 4294967296 % p < 4096)
     × (w % p * 2 ^ s % 4294967296 % p + w % p / 2 ^ (n - s) < 4096)
-turned-by n s w {p} l h e =
+turned-up-by n s w {p} l h e =
     let a : ℕ = 2 ^ s in
     let b : ℕ = 2 ^ (n - s) in
     let q : ℕ = w / b % a in
@@ -106,19 +106,28 @@ turned-by n s w {p} l h e =
     let low : w % p * a % 4294967296 % p < 4096 = omega (arith, mod-lt (w % p * a % 4294967296) {m = p} (rw e (pow-pos n))) in
     (is, small, low, rw is (number-small _ n 12 l (λ i. bit-lt _ _)))
 
+-- a word of n bits, written twice and cut, turned s places downwards, and that all of it is small
+pub turned-down-by : (n s w : ℕ) {p : ℕ} → n ≤ 12 → s ≤ n → w < 2 ^ n → p ≡ 2 ^ n
+    → ((w + w * 2 ^ n % 4294967296) / 2 ^ s % p ≡ number n (λ k. bit ((s + k) % n) w)) × (w + w * 2 ^ n % 4294967296 < 4294967296)
+    × ((w + w * 2 ^ n % 4294967296) / 2 ^ s % p < 4096)
+turned-down-by n s w {p} l h small e =
+    let most : 2 ^ n ≤ 4096 = pow-mono {j = 12} l in
+    let exact : w * 2 ^ n % 4294967296 ≡ w * 2 ^ n = shl-exact 12 n 32 (omega arith) (omega arith) in
+    let high : w * 2 ^ n ≤ 4095 * 2 ^ n = mul-le-mul-right (2 ^ n) (omega arith) in
+    let is : (w + w * 2 ^ n % 4294967296) / 2 ^ s % p ≡ number n (λ k. bit ((s + k) % n) w) = rw (exact, e) (number-twice n s w h small) in
+    (is, omega (arith, exact), rw is (number-small _ n 12 l (λ k. bit-lt _ _)))
+
 -- word j of a column, turned
 unfoldable pub wordOfColumns : ℕ → List ℕ → ℕ → ℕ
 wordOfColumns n plain j = number n (λ k. bit ((j + k) % n) (getD plain j 0))
 
-pub word-turned : (n j w : ℕ) {s : ℕ} (r : ℕ) → 0 < n → s ≡ j % n → r ≡ number n (λ k. bit ((k + n - (n - s)) % n) w) → r ≡ number n (λ k. bit ((j + k) % n) w)
-word-turned n j w {s} r h e p = p ∙ number-cong n _ _ (λ k l. ap (λ (i : ℕ). bit i w) (at k))
-  where
-    at : (k : ℕ) → (k + n - (n - s)) % n ≡ (j + k) % n
-    at k =
-        let low : j % n < n = mod-lt j h in
-        let q : k + n - (n - s) ≡ k + j % n = omega (arith, e) in
-        let t : k + j ≡ j + k = omega arith in
-        rw q (add-mod-mod k j n ∙ ap (λ (x : ℕ). x % n) t)
+pub word-turned : (n j w : ℕ) {s : ℕ} (r : ℕ) → s ≡ j % n → r ≡ number n (λ k. bit ((s + k) % n) w) → r ≡ number n (λ k. bit ((j + k) % n) w)
+word-turned n j w r e p = (rw e at p) ∙ number-cong n _ _ (λ k l. ap (λ (i : ℕ). bit i w) (mod-add-mod j n k))
+
+-- a column has only bits of its rows
+pub plain-lt : (n : ℕ) (g : List (List Bool)) (j : ℕ) {plain : List ℕ} → j < 8 → plain ≡ over 8 (λ j. number n (λ i. asBit (cell g i j))) (blank 8 0)
+    → getD plain j 0 < 2 ^ n
+plain-lt n g j l e = rw (e, getD-over 8 (λ j. number n (λ i. asBit (cell g i j))) (blank 8 0) j 0 l) (number-lt n _ (λ i. asBit-lt (cell g i j)))
 
 pub words-of-columns : (n columns : ℕ) (g : List (List Bool)) {plain : List ℕ} → 0 < n → columns ≤ 8 → plain ≡ over 8 (λ j. number n (λ i. asBit (cell g i j))) (blank 8 0)
     → over columns (wordOfColumns n plain) (blank 8 0) ≡ wordsOfGrid n columns g

@@ -53,7 +53,7 @@ fn around(n: usize, at: usize) -> usize
 }
 
 // The lowest n bits of a word, turned s places upwards.
-fn turned(n: usize, s: usize, w: u16) -> u16
+fn turned_up(n: usize, s: usize, w: u16) -> u16
     requires { ⌜ (n ≤ 12) × (s ≤ n) ⌝ }
     ensures { λ r. ⌜ r ≡ number n (λ i. bit ((i + n - s) % n) w) ⌝ }
 {
@@ -61,6 +61,15 @@ fn turned(n: usize, s: usize, w: u16) -> u16
     let low = w % all;
     let up = ((low as u32) << s) % (all as u32);
     up as u16 + (low >> (n - s))
+}
+
+// A word of n bits, turned s places downwards: written twice, side by side, and cut from the place s on.
+fn turned_down(n: usize, s: usize, w: u16) -> u16
+    requires { ⌜ (n ≤ 12) × (s ≤ n) × (w < 2 ^ n) ⌝ }
+    ensures { λ r. ⌜ r ≡ number n (λ k. bit ((s + k) % n) w) ⌝ }
+{
+    let twice = w as u32 + ((w as u32) << n);
+    ((twice >> s) % (bits::power(n) as u32)) as u16
 }
 
 // The lowest bits of a codeword.
@@ -106,7 +115,7 @@ pub fn words_of_grid(n: usize, columns: usize, g: [[bool; 8]; 12]) -> [u16; 8]
     let plain = columns_of_grid(n, g);
     let mut words = [0u16; 8];
     for j in 0..columns {
-        words[j] = turned(n, n - around(n, j), plain[j]);
+        words[j] = turned_down(n, around(n, j), plain[j]);
     }
     words
 }
@@ -119,7 +128,7 @@ fn columns_of_words(n: usize, words: [u16; 8]) -> [u16; 8]
 {
     let mut plain = [0u16; 8];
     for j in 0..8usize {
-        plain[j] = turned(n, around(n, j), words[j]);
+        plain[j] = turned_up(n, around(n, j), words[j]);
     }
     plain
 }

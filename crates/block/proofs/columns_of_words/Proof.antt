@@ -22,14 +22,14 @@ loop-holds c = (search needs, filled-none _ _)
 around-requires : tie.Need-around-requires Inv-loop μ-loop
 around-requires c κs = search needs
 
-mul-turned : tie.Need-mul-turned Inv-loop μ-loop
-mul-turned c = search needs
+mul-turned-up : tie.Need-mul-turned-up Inv-loop μ-loop
+mul-turned-up c = search needs
 
-array-read-turned : tie.Need-array-read-turned Inv-loop μ-loop
-array-read-turned c = search needs
+array-read-turned-up : tie.Need-array-read-turned-up Inv-loop μ-loop
+array-read-turned-up c = search needs
 
-turned-requires : tie.Need-turned-requires Inv-loop μ-loop
-turned-requires c κs = search needs
+turned-up-requires : tie.Need-turned-up-requires Inv-loop μ-loop
+turned-up-requires c κs = search needs
 
 mul-plain : tie.Need-mul-plain Inv-loop μ-loop
 mul-plain c = search needs
@@ -47,7 +47,7 @@ loop-again : tie.Need-loop-again Inv-loop μ-loop
 loop-again c =
     let a = c .before .before .before .before .args in
     let l = c .before .before .before .loop in
-    (search needs, filled-more (l .inv .1) (omega (arith, length-blank {A = ℕ} 8 0)) (column-turned (a .n) (l .j) (a .t2) (c .before .around .ensures .0) (c .turned .ensures)))
+    (search needs, filled-more (l .inv .1) (omega (arith, length-blank {A = ℕ} 8 0)) (column-turned (a .n) (l .j) (a .t2) (c .before .around .ensures .0) (c .turned-up .ensures)))
 
 returns : tie.Need-returns Inv-loop μ-loop
 unfolding columnOfWords
@@ -61,9 +61,9 @@ columns-of-words-spec =
     μ-loop
     loop-holds
     around-requires
-    mul-turned
-    array-read-turned
-    turned-requires
+    mul-turned-up
+    array-read-turned-up
+    turned-up-requires
     mul-plain
     array-write-plain
     add-j

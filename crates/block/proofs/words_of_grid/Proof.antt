@@ -5,7 +5,7 @@ use native.Mathlib.Omega.{arith}
 use Rattle.bits.specs.Tab.{blank}
 use Rattle.bits.proofs.Tabs.{length-blank}
 use Rattle.bits.proofs.Fill.{Filled, filled-none, filled-more, filled-end}
-use Rattle.block.proofs.GridLoop.{wordOfColumns, word-turned, words-of-columns}
+use Rattle.block.proofs.GridLoop.{wordOfColumns, word-turned, plain-lt, words-of-columns}
 use borrow.Author.Needs.{needs}
 use Rattle.block.proofs.words_of_grid.Statement.{statement}
 use Rattle.block.proofs.words_of_grid.Tie as tie
@@ -26,17 +26,16 @@ loop-holds c = (search needs, filled-none _ _)
 around-requires : tie.Need-around-requires Inv-loop μ-loop
 around-requires c κs = search needs
 
-sub-turned : tie.Need-sub-turned Inv-loop μ-loop
-sub-turned c = search needs
+mul-turned-down : tie.Need-mul-turned-down Inv-loop μ-loop
+mul-turned-down c = search needs
 
-mul-turned : tie.Need-mul-turned Inv-loop μ-loop
-mul-turned c = search needs
+array-read-turned-down : tie.Need-array-read-turned-down Inv-loop μ-loop
+array-read-turned-down c = search needs
 
-array-read-turned : tie.Need-array-read-turned Inv-loop μ-loop
-array-read-turned c = search needs
-
-turned-requires : tie.Need-turned-requires Inv-loop μ-loop
-turned-requires c κs = search needs
+turned-down-requires : tie.Need-turned-down-requires Inv-loop μ-loop
+turned-down-requires c κs =
+    let plain = c .before .before .before .columns-of-grid .ensures in
+    (search needs, search needs, plain-lt _ _ _ (omega arith) plain)
 
 mul-words : tie.Need-mul-words Inv-loop μ-loop
 mul-words c = search needs
@@ -54,7 +53,7 @@ loop-again : tie.Need-loop-again Inv-loop μ-loop
 unfolding wordOfColumns
 loop-again c =
     let l = c .before .before .before .loop in
-    (search needs, filled-more (l .inv .1) (omega (arith, length-blank {A = ℕ} 8 0)) (word-turned _ (l .j) _ _ (omega arith) (c .before .around .ensures .0) (c .turned .ensures)))
+    (search needs, filled-more (l .inv .1) (omega (arith, length-blank {A = ℕ} 8 0)) (word-turned _ (l .j) _ _ (c .before .around .ensures .0) (c .turned-down .ensures)))
 
 returns : tie.Need-returns Inv-loop μ-loop
 returns c =
@@ -69,10 +68,9 @@ words-of-grid-spec =
     columns-of-grid-requires
     loop-holds
     around-requires
-    sub-turned
-    mul-turned
-    array-read-turned
-    turned-requires
+    mul-turned-down
+    array-read-turned-down
+    turned-down-requires
     mul-words
     array-write-words
     add-j

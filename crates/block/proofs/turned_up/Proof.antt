@@ -1,9 +1,9 @@
 -- The word moved up and cut, and its upper part below it, are the word turned, which is small.
 use native.Mathlib.Omega.{arith}
-use Rattle.block.proofs.GridLoop.{turned-by}
+use Rattle.block.proofs.GridLoop.{turned-up-by}
 use borrow.Author.Needs.{needs}
-use Rattle.block.proofs.turned.Statement.{statement}
-use Rattle.block.proofs.turned.Tie as tie
+use Rattle.block.proofs.turned_up.Statement.{statement}
+use Rattle.block.proofs.turned_up.Tie as tie
 
 power-requires : tie.Need-power-requires
 power-requires c κs = search needs
@@ -13,7 +13,7 @@ rem-low c = search needs
 
 cast-up : tie.Need-cast-up
 cast-up c =
-    let (is, small, low, both) = turned-by (c .before .args .n) (c .before .args .s) (c .before .args .w) (omega arith) (omega arith) (c .power .ensures .0) in
+    let (is, small, low, both) = turned-up-by (c .before .args .n) (c .before .args .s) (c .before .args .w) (omega arith) (omega arith) (c .power .ensures .0) in
     search needs
 
 cast-up-2 : tie.Need-cast-up-2
@@ -30,7 +30,7 @@ rem-up c = search needs
 
 cast-result : tie.Need-cast-result
 cast-result c =
-    let (is, small, low, both) = turned-by (c .before .args .n) (c .before .args .s) (c .before .args .w) (omega arith) (omega arith) (c .power .ensures .0) in
+    let (is, small, low, both) = turned-up-by (c .before .args .n) (c .before .args .s) (c .before .args .w) (omega arith) (omega arith) (c .power .ensures .0) in
     search needs
 
 sub-result : tie.Need-sub-result
@@ -44,14 +44,14 @@ shr-result c = search needs
 
 add-result : tie.Need-add-result
 add-result c =
-    let (is, small, low, both) = turned-by (c .before .args .n) (c .before .args .s) (c .before .args .w) (omega arith) (omega arith) (c .power .ensures .0) in
+    let (is, small, low, both) = turned-up-by (c .before .args .n) (c .before .args .s) (c .before .args .w) (omega arith) (omega arith) (c .power .ensures .0) in
     search needs
 
 returns : tie.Need-returns
-returns c = turned-by (c .before .args .n) (c .before .args .s) (c .before .args .w) (omega arith) (omega arith) (c .power .ensures .0) .0
+returns c = turned-up-by (c .before .args .n) (c .before .args .s) (c .before .args .w) (omega arith) (omega arith) (c .power .ensures .0) .0
 
-pub turned-spec : {M : Type 1} → statement M
-turned-spec =
+pub turned-up-spec : {M : Type 1} → statement M
+turned-up-spec =
     tie.close
     (tie.spec
     power-requires
