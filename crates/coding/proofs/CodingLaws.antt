@@ -23,7 +23,7 @@ use Rattle.layout.specs.Ranges.{Valid}
 use Rattle.layout.proofs.LayoutLaws.{symbol-in}
 use Rattle.whitening.specs.Whitening.{whitening}
 use Rattle.whitening.proofs.WhiteningLaws.{whitening-lt}
-use Rattle.coding.specs.Nibbles.{dataByte, halfOf, dataNibble, bodyNibble, nibbleWith, frameNibble}
+use Rattle.coding.specs.Nibbles.{dataByte, halfOf, nibbleOfBytes, dataNibble, bodyNibble, nibbleWith, frameNibble}
 use Rattle.coding.specs.Ranges.{Sendable}
 use Rattle.coding.specs.Symbols.{codewordInBlock, symbolInBlock, symbolAt}
 use Rattle.coding.specs.Stages.{gridOfNibbles, symbolOfColumn}
@@ -47,7 +47,7 @@ half-lt byte i h = cond-lt (eqb (i % 2) 0) (omega arith) (omega arith)
 
 -- a nibble behind the header is a nibble
 body-nibble-lt : (payload : List ℕ) (checksum : ℕ) (flag : Bool) (i : ℕ) → Bytes payload → checksum < 65536 → bodyNibble payload checksum flag i < 16
-unfolding bodyNibble dataNibble
+unfolding bodyNibble dataNibble nibbleOfBytes
 body-nibble-lt payload checksum flag i bytes h =
     cond-lt (ltb i (dataNibbles (length payload) flag)) (half-lt _ i (data-byte-lt payload checksum (i / 2) bytes h)) (omega arith)
 

@@ -17,8 +17,8 @@ use Rattle.bits.proofs.Tabs.{length-blank, length-over, getD-over, over-cong, o
 use Rattle.layout.specs.Layout.{dataNibbles}
 use Rattle.layout.proofs.LayoutLaws.{data-le}
 use Rattle.whitening.specs.Whitening.{whitening, whitened}
-use Rattle.coding.specs.Nibbles.{halfOf, dataByte, dataNibble, bodyNibble, nibbleWith}
-use Rattle.coding.specs.Stages.{places, nibbleOfBytes, checksumByte}
+use Rattle.coding.specs.Nibbles.{halfOf, nibbleOfBytes, dataByte, dataNibble, bodyNibble, nibbleWith}
+use Rattle.coding.specs.Stages.{places, checksumByte}
 
 -- a byte gives two nibbles
 pub two-nibbles : (byte at : ℕ) (d : List ℕ) → at + 2 ≤ length d → set (set d at (byte % 16)) (at + 1) (byte / 16) ≡ overAt at 2 (halfOf byte) d

@@ -20,8 +20,12 @@ dataByte payload checksum p =
 unfoldable pub halfOf : ℕ → ℕ → ℕ
 halfOf byte i = cond (eqb (i % 2) 0) (byte % 16) (byte / 16)
 
+-- nibble i of bytes, two for each
+unfoldable pub nibbleOfBytes : (ℕ → ℕ) → ℕ → ℕ
+nibbleOfBytes byte i = halfOf (byte (i / 2)) i
+
 unfoldable pub dataNibble : List ℕ → ℕ → ℕ → ℕ
-dataNibble payload checksum i = halfOf (dataByte payload checksum (i / 2)) i
+dataNibble payload checksum = nibbleOfBytes (dataByte payload checksum)
 
 -- places left over are filled with nibble 0
 unfoldable pub bodyNibble : List ℕ → ℕ → Bool → ℕ → ℕ

@@ -9,16 +9,11 @@ use Rattle.bits.specs.Bit.{bit, isSet}
 use Rattle.block.specs.Gray.{valueOfWord, numberOfValue}
 use Rattle.block.specs.Grid.{grid, wordOfGrid}
 use Rattle.layout.specs.declared.Block.{Block}
-use Rattle.coding.specs.Nibbles.{halfOf}
 use Rattle.coding.specs.Symbols.{codewordInBlock}
 
 -- the places for nibbles that a frame is laid out in, which the code has as PLACES
 abbrev pub places : ℕ
 places = 532
-
--- nibble i of bytes by a rule, two for each
-unfoldable pub nibbleOfBytes : (ℕ → ℕ) → ℕ → ℕ
-nibbleOfBytes byte i = halfOf (byte (i / 2)) i
 
 -- byte p of the checksum
 unfoldable pub checksumByte : ℕ → ℕ → ℕ

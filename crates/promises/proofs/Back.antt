@@ -13,21 +13,21 @@ use Rattle.bits.specs.Tab.{tab}
 use Rattle.bits.proofs.Xor.{xor-twice}
 use Rattle.bits.proofs.Tabs.{tab-cong, tab-getD}
 use Rattle.checksum.specs.Checksum.{checksum}
-use Rattle.coding.specs.Nibbles.{dataByte, halfOf, dataNibble, bodyNibble, nibbleWith, frameNibble}
+use Rattle.coding.specs.Nibbles.{dataByte, halfOf, nibbleOfBytes, dataNibble, bodyNibble, nibbleWith, frameNibble}
 use Rattle.layout.specs.Layout.{dataNibbles}
 use Rattle.reading.specs.Payload.{byteOfNibbles, payloadByte, sentChecksum}
 use Rattle.whitening.specs.Whitening.{whitening}
 
 -- the nibbles of byte p behind the header, low nibble first
 low-nibble : (payload : List ℕ) (sum p : ℕ) → dataNibble payload sum (2 * p) ≡ dataByte payload sum p % 16
-unfolding dataNibble halfOf
+unfolding dataNibble nibbleOfBytes halfOf
 low-nibble payload sum p =
     let half : 2 * p / 2 ≡ p = omega arith in
     let even : 2 * p % 2 ≡ 0 = omega arith in
     rw (half, even)
 
 high-nibble : (payload : List ℕ) (sum p : ℕ) → dataNibble payload sum (2 * p + 1) ≡ dataByte payload sum p / 16
-unfolding dataNibble halfOf
+unfolding dataNibble nibbleOfBytes halfOf
 high-nibble payload sum p =
     let half : (2 * p + 1) / 2 ≡ p = omega arith in
     let odd : (2 * p + 1) % 2 ≡ 1 = omega arith in

@@ -12,7 +12,7 @@ use Rattle.block.specs.Block.{wordOfCodewords, symbolOfCodewords}
 use Rattle.block.specs.Gray.{valueOfWord, numberOfValue}
 use Rattle.checksum.specs.Checksum.{divisor, reduced, oneBit, lowBits, oneByte, remainder, checksum}
 use Rattle.codeword.specs.Codeword.{parity, parityOfAll, parityBit, codewordBit, codeword}
-use Rattle.coding.specs.Nibbles.{dataByte, halfOf, dataNibble, bodyNibble, nibbleWith, frameNibble}
+use Rattle.coding.specs.Nibbles.{dataByte, halfOf, nibbleOfBytes, dataNibble, bodyNibble, nibbleWith, frameNibble}
 use Rattle.coding.specs.Symbols.{codewordInBlock, symbolInBlock, symbolAt}
 use Rattle.header.specs.Header.{withChecks, headerNibbles}
 use Rattle.layout.specs.Layout.{validSf, validCr, rowsOfFirst, rowsOfLater, firstBlock, blockOf, blockOfSymbol, dataNibbles, nibblesOf, remaining, laterBlocks, symbolCount, symbolsOf}
@@ -60,5 +60,5 @@ rows =
 
 -- what our definitions give is what document 01 wants, in every row
 pub examples : givens rows ≡ wants rows
-unfolding givens wants rows smallest sentByte tab blank bit number parity parityOfAll parityBit codewordBit codeword next whitening divisor reduced oneBit lowBits oneByte remainder checksum dataByte halfOf dataNibble bodyNibble nibbleWith frameNibble withChecks headerNibbles ones valueOfWord numberOfValue wordOfCodewords symbolOfCodewords codewordInBlock symbolInBlock symbolAt validSf validCr rowsOfFirst rowsOfLater firstBlock blockOf blockOfSymbol dataNibbles remaining laterBlocks symbolCount sentNibble sentSymbol codeOf nibblesOf symbolsOf countOf
+unfolding givens wants rows smallest sentByte tab blank bit number parity parityOfAll parityBit codewordBit codeword next whitening divisor reduced oneBit lowBits oneByte remainder checksum dataByte halfOf dataNibble nibbleOfBytes bodyNibble nibbleWith frameNibble withChecks headerNibbles ones valueOfWord numberOfValue wordOfCodewords symbolOfCodewords codewordInBlock symbolInBlock symbolAt validSf validCr rowsOfFirst rowsOfLater firstBlock blockOf blockOfSymbol dataNibbles remaining laterBlocks symbolCount sentNibble sentSymbol codeOf nibblesOf symbolsOf countOf
 examples = refl

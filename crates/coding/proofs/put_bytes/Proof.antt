@@ -3,7 +3,7 @@ use Prim.Native.Nat.{_*_, _≤_, _-_}
 use native.Mathlib.Omega.{arith}
 use lib.ListN.{getD}
 use Rattle.bits.proofs.Fill.{FilledAt, filledAt-none, filledAt-end}
-use Rattle.coding.specs.Stages.{nibbleOfBytes}
+use Rattle.coding.specs.Nibbles.{nibbleOfBytes}
 use Rattle.coding.proofs.NibbleLaws.{byte-more}
 use borrow.Author.Needs.{needs}
 use Rattle.coding.proofs.put_bytes.Statement.{statement}
