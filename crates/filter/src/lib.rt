@@ -3,7 +3,7 @@
 ghost use mathlib.Core.Path.{_≡_};
 ghost use Prim.Native.Nat.{_≤_, _<_};
 ghost use lib.ListN.{length};
-ghost use Rattle.line.specs.Put.{Put};
+ghost use Rattle.put.specs.Put.{Put};
 ghost use Rattle.lines.specs.Counts.{closingLine};
 ghost use Rattle.lines.specs.Stream.{ended, lastSaid, pointOf, SanePiece, Ready, Went};
 ghost use Rattle.system.specs.Calls.{Within, Handed, Printing};

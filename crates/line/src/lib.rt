@@ -7,9 +7,10 @@ ghost use Rattle.bits.specs.Bit.{asBit};
 ghost use Rattle.bits.specs.Tab.{placed};
 ghost use Rattle.line.specs.Line.{decimal, field, hexDigit, hexByte, hex, shown, lineOf};
 ghost use Rattle.line.specs.Outcome.{outcomeOf};
-ghost use Rattle.line.specs.Put.{Put};
+ghost use Rattle.put.specs.Put.{Put};
 use bits::wide;
 use lora::Received;
+use put::put;
 
 // How a text was answered: accepted with no repairs, accepted with some, refused.
 pub enum Outcome {
@@ -43,15 +44,6 @@ pub fn outcome_of(answer: Received) -> Outcome
             place: _,
         } => Outcome::Declined,
     }
-}
-
-// Writes a byte at a place and answers the next place; so do all that follow, with what they write.
-pub fn put(out: &mut [u8], at: usize, b: u8) -> usize
-    requires { ⌜ at < length (now out) ⌝ }
-    ensures { λ r. ⌜ Put at (b ∷ []) (now (out .entry)) (now (out .exit)) r ⌝ }
-{
-    out[at] = b;
-    at + 1
 }
 
 fn decimal_digit(n: usize) -> u8

@@ -10,7 +10,7 @@ use lib.Dec.{eqb}
 use lib.ListN.{length, take, drop, getD, length-append, length-drop, drop-of-length-le}
 use lib.Seq.{take-suc, getD-drop, take-add, drop-drop, length-take-le, take-all}
 use Rattle.bits.specs.Tab.{placed}
-use Rattle.line.specs.Put.{Put}
+use Rattle.put.specs.Put.{Put}
 use Rattle.bits.specs.Bit.{asBit}
 use Rattle.bits.specs.Search.{howMany}
 use Rattle.bits.proofs.Searches.{howMany-more}

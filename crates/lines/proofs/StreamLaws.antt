@@ -8,8 +8,8 @@ use native.Mathlib.Omega.{arith}
 use borrow.Author.Tests.{ne-eqb}
 use borrow.Rule.Slice.PartMut.{mid-len}
 use lib.ListN.{length}
-use Rattle.line.specs.Put.{Put}
-use Rattle.line.proofs.Puts.{put-none, put-on}
+use Rattle.put.specs.Put.{Put}
+use Rattle.put.proofs.Puts.{put-none, put-on}
 use Rattle.text.specs.Scan as text
 use Rattle.wish.specs.Scan as wish
 use Rattle.text.specs.declared.Scan as text-struct

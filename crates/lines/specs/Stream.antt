@@ -7,7 +7,7 @@ use Prim.Native.Nat.{ℕ, _-_, _≤_, _<_}
 use lib.Dec.{eqb}
 use lib.ListN.{length, take, drop, getD}
 use Rattle.bits.specs.Search.{howMany}
-use Rattle.line.specs.Put.{Put}
+use Rattle.put.specs.Put.{Put}
 use Rattle.line.specs.declared.Outcome.{Outcome}
 use Rattle.text.specs.Scan as text
 use Rattle.wish.specs.Scan as wish

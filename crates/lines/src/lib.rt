@@ -6,7 +6,7 @@ ghost use lib.Dec.{eqb};
 ghost use lib.ListN.{length};
 ghost use Rattle.bits.specs.Bit.{asBit};
 ghost use Rattle.line.specs.Outcome.{Answered};
-ghost use Rattle.line.specs.Put.{Put};
+ghost use Rattle.put.specs.Put.{Put};
 ghost use Rattle.lines.specs.Counts.{none, more, counted, closingLine};
 ghost use Rattle.lines.specs.Lines.{frames as frameJob, wishes as wishJob};
 ghost use Rattle.lines.specs.Stream.{next, fed, ended, lastSaid, startOf, jobOf, runAt, lineAt, outcomeAt, atOf, pointOf, part, SanePiece, PieceHolds, Stands, Begins, Ends, Went, lineEnds};
@@ -278,14 +278,14 @@ pub fn closing(c: Counts, out: &mut [u8]) -> usize
     requires { ⌜ 100 ≤ length (now out) ⌝ }
     ensures { λ r. ⌜ Put 0 (closingLine c) (now (out .entry)) (now (out .exit)) r ⌝ }
 {
-    let after_e = line::put(out, 0, b'e');
-    let after_n = line::put(out, after_e, b'n');
-    let after_end = line::put(out, after_n, b'd');
+    let after_e = put::put(out, 0, b'e');
+    let after_n = put::put(out, after_e, b'n');
+    let after_end = put::put(out, after_n, b'd');
     let after_texts = line::put_field(out, after_end, c.texts);
     let after_clean = line::put_field(out, after_texts, c.clean);
     let after_repaired = line::put_field(out, after_clean, c.repaired);
     let after_refused = line::put_field(out, after_repaired, c.refused);
-    line::put(out, after_refused, 10)
+    put::put(out, after_refused, 10)
 }
 
 fn ends_line(b: u8) -> usize

@@ -1,4 +1,4 @@
-// The numbers of document 01's table, handed back instead of a result; include/lora.h has the same names.
+// The numbers of the refusals, handed back instead of a result; include/lora.h has the same names.
 pub const BAD_SF: u8 = 1;
 
 pub const BAD_CR: u8 = 2;
@@ -26,3 +26,8 @@ pub const CHECKSUM: u8 = 12;
 pub const BAD_BANDWIDTH: u8 = 13;
 
 pub const BAD_TEXT: u8 = 14;
+
+// The numbers of document 02.
+pub const FILE_BYTES: u8 = 15;
+
+pub const BAD_FIELD: u8 = 16;

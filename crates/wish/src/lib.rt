@@ -6,7 +6,7 @@ ghost use lib.ListN.{length};
 ghost use Rattle.bits.specs.Tab.{tab, over, blank};
 ghost use Rattle.line.specs.Line.{lineOf};
 ghost use Rattle.line.specs.Outcome.{Answered};
-ghost use Rattle.line.specs.Put.{Put};
+ghost use Rattle.put.specs.Put.{Put};
 ghost use Rattle.line.specs.declared.Outcome.the-variants.{Declined};
 ghost use Rattle.lora.specs.declared.Received.the-variants as received;
 ghost use Rattle.wish.specs.Answer.{isWish, narrow, sentLine, Fitted};
@@ -295,7 +295,7 @@ fn put_frame(s: Settings, symbols: &[u16], out: &mut [u8]) -> usize
     let after_sf = line::put_decimal(out, 0, bits::wide(s.sf));
     let after_low = line::put_field(out, after_sf, line::flag(s.low));
     let after_symbols = put_fields(out, after_low, symbols);
-    line::put(out, after_symbols, 10)
+    put::put(out, after_symbols, 10)
 }
 
 // The answer to what is refused.

@@ -2,7 +2,7 @@
 -- Assumes nothing.
 use native.Mathlib.Omega.{arith}
 use Rattle.line.proofs.LineLaws.{decimal-one, decimal-more, decimal-one-length, decimal-more-length}
-use Rattle.line.proofs.Puts.{put-on}
+use Rattle.put.proofs.Puts.{put-on}
 use borrow.Author.Needs.{needs}
 use Prim.Native.Nat.{ℕ, _<_}
 use borrow.Fn.Kinds.{In}
@@ -11,7 +11,7 @@ use Rattle.line.proofs.put_decimal.Reads as own
 use Rattle.line.proofs.put_decimal.Kinds.{ps}
 use Rattle.line.proofs.+put_decimal.Lts-put_decimal as tie
 use Rattle.line.proofs.decimal_digit.Reads as decimal-digit-reads
-use Rattle.line.proofs.put.Reads as put-reads
+use Rattle.put.proofs.put.Reads as put-reads
 use Rattle.line.proofs.+put_decimal.{statement}
 use Rattle.line.proofs.+put_decimal.Tie.{close}
 

@@ -1,7 +1,7 @@
 -- `put_byte` writes the two digits of a byte, the upper first.
 -- Assumes nothing.
 use Rattle.line.specs.Line.{hexByte}
-use Rattle.line.proofs.Puts.{put-on}
+use Rattle.put.proofs.Puts.{put-on}
 use borrow.Author.Needs.{needs}
 use Rattle.line.proofs.put_byte.Statement.{statement}
 use Rattle.line.proofs.put_byte.Tie as tie

@@ -4,7 +4,7 @@ use Prim.Native.Nat.{ℕ}
 use native.Mathlib.Omega.{arith}
 use Rattle.line.specs.Line.{field}
 use Rattle.line.proofs.LineLaws.{decimal-length}
-use Rattle.line.proofs.Puts.{put-on}
+use Rattle.put.proofs.Puts.{put-on}
 use borrow.Author.Needs.{needs}
 use Rattle.line.proofs.put_field.Statement.{statement}
 use Rattle.line.proofs.put_field.Tie as tie

@@ -8,8 +8,8 @@ use lib.ListN.{length, take}
 use mathlib.Core.List.{flatMap}
 use Rattle.bits.proofs.Lists.{flatMap-more}
 use Rattle.line.specs.Line.{hexByte, hex}
-use Rattle.line.specs.Put.{Put}
-use Rattle.line.proofs.Puts.{put-on, put-none}
+use Rattle.put.specs.Put.{Put}
+use Rattle.put.proofs.Puts.{put-on, put-none}
 use Rattle.line.proofs.LineLaws.{hex-length}
 use borrow.Author.Needs.{needs}
 use Rattle.line.proofs.put_hex.Statement.{statement}

@@ -1,6 +1,6 @@
 -- `put_payload` writes the last field and the line's end.
 -- Assumes nothing.
-use Rattle.line.proofs.Puts.{put-on}
+use Rattle.put.proofs.Puts.{put-on}
 use borrow.Author.Needs.{needs}
 use Rattle.line.proofs.put_payload.Statement.{statement}
 use Rattle.line.proofs.put_payload.Tie as tie

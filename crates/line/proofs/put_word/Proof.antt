@@ -1,6 +1,6 @@
 -- `put_word` writes two letters.
 -- Assumes nothing.
-use Rattle.line.proofs.Puts.{put-on}
+use Rattle.put.proofs.Puts.{put-on}
 use borrow.Author.Needs.{needs}
 use Rattle.line.proofs.put_word.Statement.{statement}
 use Rattle.line.proofs.put_word.Tie as tie

@@ -2,7 +2,7 @@
 -- Assumes nothing.
 use native.Mathlib.Omega.{arith}
 use Rattle.line.proofs.LineLaws.{payload-line, refused-line}
-use Rattle.line.proofs.Puts.{put-on, put-all}
+use Rattle.put.proofs.Puts.{put-on, put-all}
 use borrow.Author.Needs.{needs}
 use Rattle.line.proofs.write_line.Statement.{statement}
 use Rattle.line.proofs.write_line.Tie as tie

@@ -1,7 +1,7 @@
 -- `closing` writes the line that ends a good run.
 -- Assumes nothing.
 use Rattle.lines.specs.Counts.{closingLine}
-use Rattle.line.proofs.Puts.{put-on}
+use Rattle.put.proofs.Puts.{put-on}
 use borrow.Author.Needs.{needs}
 use Rattle.lines.proofs.closing.Statement.{statement}
 use Rattle.lines.proofs.closing.Tie as tie

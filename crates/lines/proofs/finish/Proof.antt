@@ -1,6 +1,6 @@
 -- `finish` answers a last piece that is not empty.
 -- Assumes nothing.
-use Rattle.line.proofs.Puts.{put-none}
+use Rattle.put.proofs.Puts.{put-none}
 use mathlib.Core.Bool.{true, false}
 use Rattle.lines.proofs.StreamLaws.{stands-here, at-end}
 use borrow.Author.Needs.{needs}

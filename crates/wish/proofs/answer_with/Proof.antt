@@ -4,7 +4,7 @@ use Prim.Native.Nat.{_≤_}
 use mathlib.Core.Path.{sym, refl}
 use lib.ListN.{length, take}
 use lib.Seq.{length-take-le}
-use Rattle.line.proofs.Puts.{put-all}
+use Rattle.put.proofs.Puts.{put-all}
 use borrow.Author.Needs.{needs}
 use Rattle.wish.proofs.answer_with.Statement.{statement}
 use Rattle.wish.proofs.answer_with.Tie as tie

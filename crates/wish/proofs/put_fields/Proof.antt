@@ -7,8 +7,8 @@ use lib.ListN.{length, take}
 use lib.Seq.{take-all}
 use Rattle.bits.proofs.Lists.{flatMap-more}
 use Rattle.line.specs.Line.{field}
-use Rattle.line.specs.Put.{Put}
-use Rattle.line.proofs.Puts.{put-on, put-none}
+use Rattle.put.specs.Put.{Put}
+use Rattle.put.proofs.Puts.{put-on, put-none}
 use Rattle.wish.specs.Wish.{fields}
 use borrow.Author.Needs.{needs}
 use Rattle.wish.proofs.put_fields.Statement.{statement}

@@ -2,7 +2,7 @@
 -- Assumes nothing.
 use native.Mathlib.Omega.{arith}
 use Rattle.line.proofs.LineLaws.{decimal-length}
-use Rattle.line.proofs.Puts.{put-on}
+use Rattle.put.proofs.Puts.{put-on}
 use Rattle.wish.proofs.AnswerLaws.{frame-line}
 use borrow.Author.Needs.{needs}
 use Rattle.wish.proofs.put_frame.Statement.{statement}

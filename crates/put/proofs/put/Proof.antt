@@ -1,9 +1,9 @@
 -- `put` writes its byte, by one store.
 -- Assumes nothing.
-use Rattle.line.proofs.Puts.{put-one}
+use Rattle.put.proofs.Puts.{put-one}
 use borrow.Author.Needs.{needs}
-use Rattle.line.proofs.put.Statement.{statement}
-use Rattle.line.proofs.put.Tie as tie
+use Rattle.put.proofs.put.Statement.{statement}
+use Rattle.put.proofs.put.Tie as tie
 
 slice-write-out : tie.Need-slice-write-out
 slice-write-out c = search needs

@@ -8,7 +8,7 @@ use native.Mathlib.Omega.{arith}
 use lib.ListN.{length, set, length-set, length-append}
 use Rattle.bits.specs.Tab.{placed}
 use Rattle.bits.proofs.Placed.{placed-nil, placed-one, placed-placed}
-use Rattle.line.specs.Put.{Put}
+use Rattle.put.specs.Put.{Put}
 
 -- nothing written
 pub put-none : (at : ℕ) (d : List ℕ) → at ≤ length d → Put at [] d d at

@@ -1,0 +1,10 @@
+pub mod CheckLaws
+pub mod DayLaws
+pub mod EntryLaws
+pub mod Examples
+pub mod ReaderLaws
+pub mod ScriptLaws
+pub mod SectionLaws
+pub mod SettingLaws
+pub mod StepLaws
+pub mod WalkLaws

@@ -1,0 +1,4 @@
+pub mod Day
+pub mod Script
+pub mod Stages
+pub mod Walk
