@@ -19,7 +19,6 @@ use Rattle.day.specs.declared.entries.Went.{Went}
 use Rattle.day.specs.declared.entries.Went.the-variants.{On, Stop as Stays}
 use Rattle.day.specs.declared.sections.Part.{Part}
 use Rattle.day.specs.declared.sections.Part.the-variants.{Read, Stop as Ends}
-use Rattle.day.specs.declared.Section.the-variants.{Start, Settings, Frames, Refused}
 use Rattle.day.specs.declared.Place.{Place}
 use Rattle.day.specs.declared.Entry.{Entry}
 use Rattle.day.specs.declared.Entry.the-variants.{Setting as SettingHere, Frame as FrameHere, Refused as RefusedHere, End, Stop}
@@ -99,7 +98,7 @@ module _ (bytes : List ℕ) (at settings : ℕ) where
 
     module _ (m : ℕ) (h : left ≡ suc m) where
       pub refused-here : (end : ℕ) → On end ≡ spot (walk (refusedFrame settings .read []) bytes at)
-          → RefusedHere (getD bytes at 0) (getD bytes (at + 1) 0) (getD bytes (at + 2) 0 + 256 * getD bytes (at + 3) 0) (record { at = end; section = Refused; left = m; settings = settings })
+          → RefusedHere (getD bytes at 0) (getD bytes (at + 1) 0) (getD bytes (at + 2) 0 + 256 * getD bytes (at + 3) 0) (record { at = end; section = 3; left = m; settings = settings })
           ≡ entryOf bytes (walk (inRefused settings left) bytes at)
       unfolding inRefused
       refused-here end e = rw (h, bind-on _ _ bytes at (came-refused bytes at settings end e .0) (done-back _ bytes end))
@@ -121,12 +120,12 @@ module _ (bytes : List ℕ) (at settings : ℕ) where
 
     module _ (m : ℕ) (h : left ≡ suc m) where
       pub frame-here : (a b c d start end : ℕ) → Is a b c d start end ≡ frameSeen (walk (frame settings .read []) bytes at)
-          → FrameHere a b c d start (record { at = end; section = Frames; left = m; settings = settings }) ≡ entryOf bytes (walk (inFrames kind1 settings left) bytes at)
+          → FrameHere a b c d start (record { at = end; section = 2; left = m; settings = settings }) ≡ entryOf bytes (walk (inFrames kind1 settings left) bytes at)
       unfolding inFrames frameSeen
       frame-here a b c d start end e = go (walk (frame settings .read []) bytes at) refl e
         where
           go : (w : Walked Frame) → walk (frame settings .read []) bytes at ≡ w → Is a b c d start end ≡ frameSeen w
-              → FrameHere a b c d start (record { at = end; section = Frames; left = m; settings = settings }) ≡ entryOf bytes (walk (inFrames kind1 settings left) bytes at)
+              → FrameHere a b c d start (record { at = end; section = 2; left = m; settings = settings }) ≡ entryOf bytes (walk (inFrames kind1 settings left) bytes at)
           go (came f next) p q =
               let za : f .setting ≡ a = cc in
               let zb : f .cr ≡ b = cc in
@@ -161,7 +160,7 @@ module _ (bytes : List ℕ) (at settings : ℕ) where
 
     module _ (m : ℕ) (h : left ≡ suc m) where
       pub setting-here : (end : ℕ) → On end ≡ spot (walk (setting .read earlier) bytes at)
-          → SettingHere (getD bytes at 0) (getD bytes (at + 1) 0) (record { at = end; section = Settings; left = m; settings = settings })
+          → SettingHere (getD bytes at 0) (getD bytes (at + 1) 0) (record { at = end; section = 1; left = m; settings = settings })
           ≡ entryOf bytes (walk (inSettings kind1 earlier settings left) bytes at)
       unfolding inSettings
       setting-here end e = rw (h, bind-on _ _ bytes at (came-setting bytes at earlier end e .0) (done-back _ bytes end))
@@ -196,18 +195,19 @@ module _ (bytes : List ℕ) (at : ℕ) where
 
 -- each section has its step
 module _ (bytes : List ℕ) (p : Place) (r : Entry) where
-  pub shown-start : p .section ≡ Start → r ≡ entryOf bytes (walk (atStart kind1 (settingsBefore bytes (p .at + 2))) bytes (p .at)) → r ≡ shown kind1 bytes p
+  pub shown-start : p .section ≡ 0 → r ≡ entryOf bytes (walk (atStart kind1 (settingsBefore bytes (p .at + 2))) bytes (p .at)) → r ≡ shown kind1 bytes p
   unfolding shown
   shown-start s e = e ∙ rw s
 
-  pub shown-settings : p .section ≡ Settings → r ≡ entryOf bytes (walk (inSettings kind1 (settingsBefore bytes (p .at)) (p .settings) (p .left)) bytes (p .at)) → r ≡ shown kind1 bytes p
+  pub shown-settings : p .section ≡ 1 → r ≡ entryOf bytes (walk (inSettings kind1 (settingsBefore bytes (p .at)) (p .settings) (p .left)) bytes (p .at)) → r ≡ shown kind1 bytes p
   unfolding shown
   shown-settings s e = e ∙ rw s
 
-  pub shown-frames : p .section ≡ Frames → r ≡ entryOf bytes (walk (inFrames kind1 (p .settings) (p .left)) bytes (p .at)) → r ≡ shown kind1 bytes p
+  pub shown-frames : p .section ≡ 2 → r ≡ entryOf bytes (walk (inFrames kind1 (p .settings) (p .left)) bytes (p .at)) → r ≡ shown kind1 bytes p
   unfolding shown
   shown-frames s e = e ∙ rw s
 
-  pub shown-refused : p .section ≡ Refused → r ≡ entryOf bytes (walk (inRefused (p .settings) (p .left)) bytes (p .at)) → r ≡ shown kind1 bytes p
+  pub shown-refused : (p .section ≡ 0 → ⊥) → (p .section ≡ 1 → ⊥) → (p .section ≡ 2 → ⊥)
+      → r ≡ entryOf bytes (walk (inRefused (p .settings) (p .left)) bytes (p .at)) → r ≡ shown kind1 bytes p
   unfolding shown
-  shown-refused s e = e ∙ rw s
+  shown-refused a b c e = e ∙ rw (ne-eqb (p .section) 0 a, ne-eqb (p .section) 1 b, ne-eqb (p .section) 2 c)

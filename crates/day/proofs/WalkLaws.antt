@@ -1,17 +1,23 @@
--- Where a payload lies that was read.
+-- Where a payload lies that was read, or that a walker shows.
 -- Assumes nothing.
 use mathlib.Core.Path.{_≡_, refl, sym, ap, _∙_}
+use mathlib.Core.Bool.{Bool, true, false, cond}
 use mathlib.Core.List.{List, [], _∷_, _++_, append-assoc}
-use Prim.Native.Nat.{ℕ, suc, _+_, _-_, _<_, _≤_}
+use Prim.Native.Nat.{ℕ, zero, suc, _+_, _-_, _<_, _≤_}
 use native.Mathlib.Omega.{arith}
+use lib.Dec.{eqb}
 use lib.ListN.{length, take, drop, length-append, length-drop}
 use lib.Seq.{take-at}
-use Rattle.day.specs.Script.{Walked, came, stop, walk, putEach}
-use Rattle.day.specs.Day.{Frame, frame, anyByte, lowFirst}
-use Rattle.day.specs.Stages.{frameSeen}
+use Rattle.day.specs.Script.{Script, done, _>>=_, Walked, came, stop, walk, putEach}
+use Rattle.day.specs.Day.{Setting, Frame, Kind, frame, anyByte, lowFirst}
+use Rattle.day.specs.Stages.{frameSeen, settingsBefore}
+use Rattle.day.specs.Walk.{Found, aSetting, aFrame, aRefused, theEnd, inRefused, inFrames, inSettings, atStart, entryOf, from, shown}
+use Rattle.day.specs.declared.Place.{Place}
+use Rattle.day.specs.declared.Entry.{Entry}
+use Rattle.day.specs.declared.Entry.the-variants.{Setting as SettingHere, Frame as FrameHere, Refused as RefusedHere, End, Stop as Stopped}
 use Rattle.day.specs.declared.entries.FrameAt.{FrameAt}
 use Rattle.day.specs.declared.entries.FrameAt.the-variants.{Is, Stop}
-use Rattle.day.proofs.ScriptLaws.{Stands, stands-split}
+use Rattle.day.proofs.ScriptLaws.{Stands, stands-split, bind-only, done-only}
 use Rattle.day.proofs.DayLaws.{frame-lawful}
 
 -- what stands in a file ends within it
@@ -55,3 +61,65 @@ frame-part bytes n at f next p =
     let start : next - length (f .payload) ≡ at + length (frameHead f) = omega (arith, body .long) in
     let long : next - (at + length (frameHead f)) ≡ length (f .payload) = omega (arith, body .long) in
     rw (start, long, body .is) (take-at (f .payload) _ (length (f .payload)) refl)
+
+-- A frame that a walker comes upon was read as a frame.
+module _ (bytes : List ℕ) (f : Frame) (left n next : ℕ) where
+  abbrev Found-as : Script Found → ℕ → Type 0
+  Found-as s at = walk s bytes at ≡ came (aFrame f left n) next → (m : ℕ) × (walk (frame n .read []) bytes m ≡ came f next)
+
+  in-refused : (settings k at : ℕ) → Found-as (inRefused settings k) at
+  unfolding inRefused
+  in-refused settings zero at e = absurd (let q = done-only _ _ bytes at next e .0 in let z : _≡_ {A = ℕ} 0 1 = cc in omega arith)
+  in-refused settings (suc k) at e = bind-only _ _ bytes at _ next e λ r mid p q.
+      absurd (let t = done-only _ _ bytes mid next q .0 in let z : _≡_ {A = ℕ} 0 1 = cc in omega arith)
+
+  in-frames : (k : Kind) (settings m at : ℕ) → Found-as (inFrames k settings m) at
+  unfolding inFrames
+  in-frames k settings zero at e = bind-only _ _ bytes at _ next e λ count mid p q. in-refused settings count mid q
+  in-frames k settings (suc m) at e = bind-only _ _ bytes at _ next e λ g mid p q.
+      let (t, z) = done-only _ _ bytes mid next q in
+      let same : f ≡ g = cc in
+      let files : n ≡ settings = cc in
+      (at, rw (files, same, z) p)
+
+  in-settings : (k : Kind) (earlier : List Setting) (settings m at : ℕ) → Found-as (inSettings k earlier settings m) at
+  unfolding inSettings
+  in-settings k earlier settings zero at e = bind-only _ _ bytes at _ next e λ count mid p q. in-frames k settings count mid q
+  in-settings k earlier settings (suc m) at e = bind-only _ _ bytes at _ next e λ s mid p q.
+      absurd (let t = done-only _ _ bytes mid next q .0 in let z : _≡_ {A = ℕ} 0 1 = cc in omega arith)
+
+  at-start : (k : Kind) (earlier : List Setting) (at : ℕ) → Found-as (atStart k earlier) at
+  unfolding atStart
+  at-start k earlier at e = bind-only _ _ bytes at _ next e λ mark m1 p1 e1. bind-only _ _ bytes m1 _ next e1 λ count m2 p2 e2. in-settings k earlier count count m2 e2
+
+  anywhere : (k : Kind) (p : Place) (at : ℕ) → Found-as (from k bytes p) at
+  anywhere k p at = go (eqb (p .section) 0) (eqb (p .section) 1) (eqb (p .section) 2)
+    where
+      go : (a b c : Bool)
+          → Found-as (cond a (atStart k (settingsBefore bytes (p .at + 2))) (cond b (inSettings k (settingsBefore bytes (p .at)) (p .settings) (p .left)) (cond c (inFrames k (p .settings) (p .left)) (inRefused (p .settings) (p .left))))) at
+      go true b c = at-start k _ at
+      go false true c = in-settings k _ (p .settings) (p .left) at
+      go false false true = in-frames k (p .settings) (p .left) at
+      go false false false = in-refused (p .settings) (p .left) at
+
+-- A payload that is shown lies in the file.
+pub shown-lies : (k : Kind) (bytes : List ℕ) (p q : Place) (a b c d start : ℕ) → shown k bytes p ≡ FrameHere a b c d start q → (start ≤ q .at) × (q .at ≤ length bytes)
+unfolding shown
+shown-lies k bytes p q a b c d start e = go (walk (from k bytes p) bytes (p .at)) refl e
+  where
+    ends : (at : ℕ) (t : Bool) → cond t End (Stopped 15 at) ≡ FrameHere a b c d start q → (start ≤ q .at) × (q .at ≤ length bytes)
+    ends at true r = absurd (let z : _≡_ {A = ℕ} 0 1 = cc in omega arith)
+    ends at false r = absurd (let z : _≡_ {A = ℕ} 0 1 = cc in omega arith)
+
+    go : (w : Walked Found) → walk (from k bytes p) bytes (p .at) ≡ w → entryOf bytes w ≡ FrameHere a b c d start q → (start ≤ q .at) × (q .at ≤ length bytes)
+    go (came (aSetting s l n) next) w r = absurd (let z : _≡_ {A = ℕ} 0 1 = cc in omega arith)
+    go (came (aFrame f l n) next) w r =
+        let (at, v) = anywhere bytes f l n next k p (p .at) w in
+        let s : next - length (f .payload) ≡ start = cc in
+        let t : (record { at = next; section = 2; left = l; settings = n }) ≡ q = cc in
+        let u : next ≡ q .at = ap (λ (x : Place). x .at) t in
+        let within : next ≤ length bytes = stands-within (frame n .put f) bytes at next (frame-long n f) (frame-lawful n [] .only bytes at f next v .1) in
+        (omega arith, omega arith)
+    go (came (aRefused x l n) next) w r = absurd (let z : _≡_ {A = ℕ} 0 1 = cc in omega arith)
+    go (came theEnd next) w r = ends next (eqb next (length bytes)) r
+    go (stop x y) w r = absurd (let z : _≡_ {A = ℕ} 0 1 = cc in omega arith)

@@ -8,8 +8,6 @@ use lib.ListN.{length, take, drop}
 use Rattle.day.specs.Script.{Script, done, _>>=_, one, walk, Walked, came, stop}
 use Rattle.day.specs.Day.{Setting, Frame, RefusedFrame, Kind, count, setting, frame, refusedFrame}
 use Rattle.day.specs.Stages.{settingsBefore}
-use Rattle.day.specs.declared.Section.{Section}
-use Rattle.day.specs.declared.Section.the-variants.{Start, Settings, Frames, Refused}
 use Rattle.day.specs.declared.Place.{Place}
 use Rattle.day.specs.declared.Entry.{Entry}
 use Rattle.day.specs.declared.Entry.the-variants.{Setting as SettingHere, Frame as FrameHere, Refused as RefusedHere, End, Stop}
@@ -43,23 +41,24 @@ atStart k earlier = do
 
 -- it is told as an entry; behind the last one the file ends
 abbrev pub entryOf : List ℕ → Walked Found → Entry
-entryOf bytes (came (aSetting s left settings) next) = SettingHere (s .sf) (s .low) (record { at = next; section = Settings; left = left; settings = settings })
+entryOf bytes (came (aSetting s left settings) next) = SettingHere (s .sf) (s .low) (record { at = next; section = 1; left = left; settings = settings })
 entryOf bytes (came (aFrame f left settings) next) =
-    FrameHere (f .setting) (f .cr) (f .flag) (f .repairs) (next - length (f .payload)) (record { at = next; section = Frames; left = left; settings = settings })
-entryOf bytes (came (aRefused r left settings) next) = RefusedHere (r .setting) (r .number) (r .place) (record { at = next; section = Refused; left = left; settings = settings })
+    FrameHere (f .setting) (f .cr) (f .flag) (f .repairs) (next - length (f .payload)) (record { at = next; section = 2; left = left; settings = settings })
+entryOf bytes (came (aRefused r left settings) next) = RefusedHere (r .setting) (r .number) (r .place) (record { at = next; section = 3; left = left; settings = settings })
 entryOf bytes (came theEnd next) = cond (eqb next (length bytes)) End (Stop 15 next)
 entryOf bytes (stop number place) = Stop number place
 
--- the script from a place on, by its section
-abbrev pub from : Kind → List ℕ → Place → Section → Script Found
-from k bytes p Start = atStart k (settingsBefore bytes (p .at + 2))
-from k bytes p Settings = inSettings k (settingsBefore bytes (p .at)) (p .settings) (p .left)
-from k bytes p Frames = inFrames k (p .settings) (p .left)
-from k bytes p Refused = inRefused (p .settings) (p .left)
+-- from a place on, by its section: 0 before the first byte, 1 settings, 2 frames, else refused frames
+abbrev pub from : Kind → List ℕ → Place → Script Found
+from k bytes p =
+    cond (eqb (p .section) 0) (atStart k (settingsBefore bytes (p .at + 2)))
+    (cond (eqb (p .section) 1) (inSettings k (settingsBefore bytes (p .at)) (p .settings) (p .left))
+    (cond (eqb (p .section) 2) (inFrames k (p .settings) (p .left))
+    (inRefused (p .settings) (p .left))))
 
 -- the entry that stands at a place
 unfoldable pub shown : Kind → List ℕ → Place → Entry
-shown k bytes p = entryOf bytes (walk (from k bytes p (p .section)) bytes (p .at))
+shown k bytes p = entryOf bytes (walk (from k bytes p) bytes (p .at))
 
 -- its payload: that part of the file
 abbrev pub payloadOf : Entry → List ℕ → List ℕ
@@ -76,3 +75,7 @@ behind (FrameHere setting cr flag repairs start next) p = next
 behind (RefusedHere setting number place next) p = next
 behind End p = p
 behind (Stop number place) p = p
+
+-- where a walk starts
+abbrev pub begin : Place
+begin = record { at = 0; section = 0; left = 0; settings = 0 }

@@ -28,18 +28,19 @@ pub enum Verdict {
 }
 
 // The sections of a file; a walk starts before its first byte.
-pub enum Section {
-    Start,
-    Settings,
-    Frames,
-    Refused,
-}
+pub const START: u8 = 0;
 
-// Where a walker stands: the place of the next byte, its section, how many entries of it are left, and how many settings the
-// file has.
+pub const SETTINGS: u8 = 1;
+
+pub const FRAMES: u8 = 2;
+
+pub const REFUSED: u8 = 3;
+
+// Where a walker stands: the place of the next byte, its section (a number above 3 is as 3), how many entries of it are left,
+// and how many settings the file has.
 pub struct Place {
     pub at: usize,
-    pub section: Section,
+    pub section: u8,
     pub left: usize,
     pub settings: usize,
 }

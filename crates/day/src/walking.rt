@@ -7,7 +7,6 @@ ghost use Rattle.day.specs.Stages.{settingsBefore};
 ghost use Rattle.day.specs.Walk.{inRefused, inFrames, inSettings, atStart, entryOf, shown};
 use crate::Entry;
 use crate::Place;
-use crate::Section;
 use crate::entries::FrameAt;
 use crate::entries::Went;
 use crate::entries::frame_at;
@@ -47,7 +46,7 @@ fn in_refused(bytes: &[u8], at: usize, settings: usize, left: usize) -> Entry
             place: low_first(byte_at(bytes, at + 2), byte_at(bytes, at + 3)),
             next: Place {
                 at: end,
-                section: Section::Refused,
+                section: crate::REFUSED,
                 left: left - 1,
                 settings,
             },
@@ -82,7 +81,7 @@ fn in_frames(bytes: &[u8], at: usize, settings: usize, left: usize) -> Entry
             start,
             next: Place {
                 at: end,
-                section: Section::Frames,
+                section: crate::FRAMES,
                 left: left - 1,
                 settings,
             },
@@ -107,7 +106,7 @@ fn in_settings(bytes: &[u8], at: usize, settings: usize, left: usize) -> Entry
             low: byte_at(bytes, at + 1),
             next: Place {
                 at: end,
-                section: Section::Settings,
+                section: crate::SETTINGS,
                 left: left - 1,
                 settings,
             },
@@ -137,11 +136,14 @@ fn at_start(bytes: &[u8], at: usize) -> Entry
 pub fn entry_at(bytes: &[u8], place: Place) -> Entry
     ensures { λ r. ⌜ r ≡ shown kind1 (now (bytes .entry)) place ⌝ }
 {
-    let section = place.section;
-    match section {
-        Section::Start => at_start(bytes, place.at),
-        Section::Settings => in_settings(bytes, place.at, place.settings, place.left),
-        Section::Frames => in_frames(bytes, place.at, place.settings, place.left),
-        Section::Refused => in_refused(bytes, place.at, place.settings, place.left),
+    if place.section == crate::START {
+        return at_start(bytes, place.at);
     }
+    if place.section == crate::SETTINGS {
+        return in_settings(bytes, place.at, place.settings, place.left);
+    }
+    if place.section == crate::FRAMES {
+        return in_frames(bytes, place.at, place.settings, place.left);
+    }
+    in_refused(bytes, place.at, place.settings, place.left)
 }

@@ -31,8 +31,8 @@ frame-at-requires c κs = search needs
 enum-known-setting : tie.Need-enum-known-setting
 enum-known-setting c = search needs
 
-sub-t23 : tie.Need-sub-t23
-sub-t23 c = search needs
+sub-t22 : tie.Need-sub-t22
+sub-t22 c = search needs
 
 enum-known-number-2 : tie.Need-enum-known-number-2
 enum-known-number-2 c = search needs
@@ -55,7 +55,7 @@ in-frames-spec =
     returns-2
     frame-at-requires
     enum-known-setting
-    sub-t23
+    sub-t22
     enum-known-number-2
     returns-3
     returns-4)

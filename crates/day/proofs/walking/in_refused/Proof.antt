@@ -43,8 +43,8 @@ byte-at-requires-4 c κs = search needs
 low-first-requires : tie.Need-low-first-requires
 low-first-requires c κs = search needs
 
-sub-t20 : tie.Need-sub-t20
-sub-t20 c = search needs
+sub-t19 : tie.Need-sub-t19
+sub-t19 c = search needs
 
 enum-known-number : tie.Need-enum-known-number
 enum-known-number c = search needs
@@ -81,7 +81,7 @@ in-refused-spec =
     add-byte-at-3
     byte-at-requires-4
     low-first-requires
-    sub-t20
+    sub-t19
     enum-known-number
     returns-2
     returns-3)

@@ -40,8 +40,8 @@ add-byte-at c = let end = c .before .before in omega (arith, came-setting _ _ _ 
 byte-at-requires-2 : tie.Need-byte-at-requires-2
 byte-at-requires-2 c κs = search needs
 
-sub-t21 : tie.Need-sub-t21
-sub-t21 c = search needs
+sub-t20 : tie.Need-sub-t20
+sub-t20 c = search needs
 
 enum-known-number-2 : tie.Need-enum-known-number-2
 enum-known-number-2 c = search needs
@@ -70,7 +70,7 @@ in-settings-spec =
     byte-at-requires
     add-byte-at
     byte-at-requires-2
-    sub-t21
+    sub-t20
     enum-known-number-2
     returns-3
     returns-4)
