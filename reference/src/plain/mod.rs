@@ -1,8 +1,10 @@
-//! The five operations of document 01, done as they are told there.
+//! The five operations of document 01 and the requests of document 02, done as
+//! they are told there.
 
 pub mod block;
 pub mod bytes;
 pub mod codeword;
+pub mod day;
 pub mod header;
 
 use crate::types::{refuse, Header, Received, Refusal, Settings};
