@@ -1,11 +1,13 @@
-//! An independent implementation of document 01, and the means to hold the
-//! product against it. No code is shared with the product.
+//! An independent implementation of documents 01 and 02, and the means to hold
+//! the product against it. No code is shared with the product.
 
 pub mod cases;
+pub mod keep;
 pub mod plain;
 #[cfg(feature = "linked")]
 pub mod product;
 pub mod random;
+pub mod show;
 pub mod text;
 pub mod tuned;
 pub mod types;

@@ -26,7 +26,24 @@ pub fn answer_line(text: &[u8]) -> Vec<u8> {
 }
 
 fn answer(text: &[u8], payload: &mut [u8]) -> Result<Received, Refusal> {
-    // The whole text is judged before its meaning.
+    capture(text)?.read(payload)
+}
+
+/// What a text says: what was heard, and with which settings.
+pub struct Capture {
+    pub sf: u8,
+    pub low: bool,
+    symbols: Vec<u16>,
+}
+
+impl Capture {
+    pub fn read(&self, payload: &mut [u8]) -> Result<Received, Refusal> {
+        plain::read(self.sf, self.low, &self.symbols, payload)
+    }
+}
+
+/// Judges the whole text, before its meaning.
+pub fn capture(text: &[u8]) -> Result<Capture, Refusal> {
     let Some(numbers) = numbers(text) else {
         return refuse(14, 0);
     };
@@ -36,7 +53,11 @@ fn answer(text: &[u8], payload: &mut [u8]) -> Result<Received, Refusal> {
     if symbols.len() > MOST_SYMBOLS {
         return refuse(14, 0);
     }
-    plain::read(byte(*sf), *low == 1, symbols, payload)
+    Ok(Capture {
+        sf: byte(*sf),
+        low: *low == 1,
+        symbols: symbols.to_vec(),
+    })
 }
 
 fn numbers(text: &[u8]) -> Option<Vec<u16>> {

@@ -1,0 +1,88 @@
+//! The program that keeps a day: captures in, the day's file out, and on standard
+//! error what the file can't hold.
+
+use crate::plain::day::{self, Day, Frame, RefusedFrame, Setting};
+use crate::text::{self, Capture};
+use crate::types::{Received, Refusal};
+use crate::words::refusal_line;
+use crate::MOST_BYTES;
+
+/// The file of these captures, a text a line, and the lines on standard error.
+pub fn keep(input: &[u8]) -> (Result<Vec<u8>, Refusal>, String) {
+    let mut day = Day::default();
+    let mut errors = String::new();
+    let mut told = 0;
+    for (i, text) in texts(input).into_iter().enumerate() {
+        if let Err(refusal) = enter(text, &mut day) {
+            errors += &format!("line {}: {}", i + 1, refusal_line(refusal));
+            told += 1;
+        }
+    }
+    let file = day::write(&day);
+    errors += &match &file {
+        Ok(_) => {
+            let repaired = day.frames.iter().filter(|frame| frame.repairs > 0).count();
+            let (frames, refused) = (day.frames.len(), day.refused.len());
+            format!("kept {frames} {repaired} {refused} {told}\n")
+        }
+        Err(refusal) => refusal_line(*refusal),
+    };
+    (file, errors)
+}
+
+/// The input cut at byte 10; an empty piece at the end is no text.
+fn texts(input: &[u8]) -> Vec<&[u8]> {
+    let mut pieces: Vec<&[u8]> = input.split(|byte| *byte == b'\n').collect();
+    if pieces.last().is_some_and(|last| last.is_empty()) {
+        pieces.pop();
+    }
+    pieces
+}
+
+/// Reads a text and enters what came out, unless the file can't hold it.
+fn enter(text: &[u8], day: &mut Day) -> Result<(), Refusal> {
+    let capture = text::capture(text)?;
+    let mut payload = [0; MOST_BYTES];
+    match capture.read(&mut payload) {
+        Ok(Received {
+            header, repairs, ..
+        }) => {
+            let setting = setting_of(&capture, day);
+            day.frames.push(Frame {
+                setting,
+                cr: header.cr,
+                flag: header.checksum.into(),
+                repairs: repairs as u16,
+                payload: payload[..header.length].to_vec(),
+            });
+            Ok(())
+        }
+        Err(Refusal {
+            number: number @ 4..=12,
+            place,
+        }) => {
+            let setting = setting_of(&capture, day);
+            day.refused.push(RefusedFrame {
+                setting,
+                number,
+                place: place as u16,
+            });
+            Ok(())
+        }
+        Err(other) => Err(other),
+    }
+}
+
+/// The index of a capture's setting, which is new at its first use.
+fn setting_of(capture: &Capture, day: &mut Day) -> u8 {
+    let setting = Setting {
+        sf: capture.sf,
+        low: capture.low.into(),
+    };
+    let known = day.settings.iter().position(|earlier| *earlier == setting);
+    let index = known.unwrap_or_else(|| {
+        day.settings.push(setting);
+        day.settings.len() - 1
+    });
+    index as u8
+}
