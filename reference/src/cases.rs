@@ -1,5 +1,7 @@
 //! Frames to try: clean, damaged, foreign and made up.
 
+pub mod days;
+
 use crate::plain::{self, header};
 use crate::random::Random;
 use crate::types::{Header, Settings};

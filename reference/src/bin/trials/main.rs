@@ -1,17 +1,72 @@
-//! Writes lines for a program and the line that it must print for each:
-//! `trials frames|wishes SEED LINES INPUT OUTPUT`. Frames are for the reading
-//! program, wishes for the coding program.
+//! Writes what goes into a program and what must come out of it.
+//!
+//! `trials frames|wishes SEED LINES INPUT OUTPUT`: lines for the reading program
+//! or the coding program.
+//! `trials keep SEED LINES INPUT OUTPUT ERRORS`: captures for the program that
+//! keeps a day, its file and its standard error.
+//! `trials show INPUT OUTPUT`: a file for the program that shows a day.
+//! `trials files SEED INPUT OUTPUT`: many files, each after its length in four
+//! bytes, low first.
 
+mod files;
 mod frames;
 mod spelling;
 mod tally;
 mod wishes;
 
+use files::{every_end, file_of, Files};
+use reference::plain::day;
 use reference::random::Random;
-use reference::{text, wish};
+use reference::{cases, keep, show, text, wish};
 use std::process::ExitCode;
 use std::{env, fs};
 use tally::{Outcome, Tally};
+
+fn main() -> ExitCode {
+    let words: Vec<String> = env::args().skip(1).collect();
+    let words: Vec<&str> = words.iter().map(String::as_str).collect();
+    let missing = match words[..] {
+        [name @ ("frames" | "wishes"), seed, lines, input, output] => {
+            let (Ok(seed), Ok(lines)) = (seed.parse(), lines.parse()) else {
+                return usage();
+            };
+            println!("{name}, seed {seed}, lines {lines}");
+            let trial = if name == "frames" { FRAMES } else { WISHES };
+            answered_lines(&trial, Random::new(seed), lines, input, output)
+        }
+        ["keep", seed, lines, input, output, errors] => {
+            let (Ok(seed), Ok(lines)) = (seed.parse(), lines.parse()) else {
+                return usage();
+            };
+            println!("keep, seed {seed}, lines {lines}");
+            kept_day(Random::new(seed), lines, input, output, errors)
+        }
+        ["show", input, output] => {
+            let file = file_of(&every_end());
+            println!("show, {} bytes", file.len());
+            write(input, &file);
+            write(output, &show::show(&file));
+            Vec::new()
+        }
+        ["files", seed, input, output] => {
+            let Ok(seed) = seed.parse() else {
+                return usage();
+            };
+            let files = Files::new(&mut Random::new(seed));
+            println!("files, seed {seed}, files {}", files.count);
+            write(input, &files.packed);
+            write(output, &files.shown);
+            files.print();
+            files.missing()
+        }
+        _ => return usage(),
+    };
+    if missing.is_empty() {
+        return ExitCode::SUCCESS;
+    }
+    eprintln!("FAILED, never occurred: {}", missing.join(", "));
+    ExitCode::FAILURE
+}
 
 /// What lines to write, and what must have come out of them.
 struct Trial {
@@ -22,32 +77,26 @@ struct Trial {
     wanted: &'static [Outcome],
 }
 
-fn trial(name: &str) -> Option<Trial> {
-    match name {
-        "frames" => Some(Trial {
-            text: frames::text,
-            answer_line: text::answer_line,
-            wanted: &frames::WANTED,
-        }),
-        "wishes" => Some(Trial {
-            text: wishes::text,
-            answer_line: wish::answer_line,
-            wanted: &wishes::WANTED,
-        }),
-        _ => None,
-    }
-}
+const FRAMES: Trial = Trial {
+    text: frames::text,
+    answer_line: text::answer_line,
+    wanted: &frames::WANTED,
+};
 
-fn main() -> ExitCode {
-    let arguments: Vec<String> = env::args().skip(1).collect();
-    let [name, seed, lines, input, output] = &arguments[..] else {
-        return usage();
-    };
-    let (Some(trial), Ok(seed), Ok(lines)) = (trial(name), seed.parse(), lines.parse()) else {
-        return usage();
-    };
+const WISHES: Trial = Trial {
+    text: wishes::text,
+    answer_line: wish::answer_line,
+    wanted: &wishes::WANTED,
+};
 
-    let mut random = Random::new(seed);
+/// Lines and their answers; answers what never occurred.
+fn answered_lines(
+    trial: &Trial,
+    mut random: Random,
+    lines: usize,
+    input: &str,
+    output: &str,
+) -> Vec<String> {
     let (mut texts, mut answers) = (Vec::new(), Vec::new());
     let mut tally = Tally::default();
     for line in 0..lines {
@@ -59,21 +108,60 @@ fn main() -> ExitCode {
         texts.push(b'\n');
         answers.extend(answer);
     }
-    fs::write(input, texts).expect("INPUT can't be written");
-    fs::write(output, answers).expect("OUTPUT can't be written");
-
-    println!("{name}, seed {seed}, lines {lines}");
+    write(input, &texts);
+    write(output, &answers);
     tally.print();
-    let missing = tally.missing(trial.wanted);
-    if missing.is_empty() {
-        return ExitCode::SUCCESS;
+    tally.missing(trial.wanted)
+}
+
+/// Captures, the day's file and the lines on standard error; answers what never
+/// occurred.
+fn kept_day(
+    mut random: Random,
+    lines: usize,
+    input: &str,
+    output: &str,
+    errors: &str,
+) -> Vec<String> {
+    let mut texts = Vec::new();
+    let mut tally = Tally::default();
+    for line in 0..lines {
+        // The settings come in no order, so that theirs in the file shows.
+        let settings = random.below(cases::SETTINGS);
+        let text = frames::text(settings, line + 1 == lines, &mut random);
+        tally.add(&text::answer_line(&text));
+        texts.push(text);
     }
-    eprintln!("FAILED, never occurred: {}", missing.join(", "));
-    ExitCode::FAILURE
+    // The last line has no end.
+    let captures = texts.join(&b'\n');
+    let (file, told) = keep::keep(&captures);
+    let file = file.expect("LINES is too many for a file");
+    write(input, &captures);
+    write(output, &file);
+    write(errors, told.as_bytes());
+    tally.print();
+    println!("{}", told.lines().last().unwrap());
+    let mut missing = tally.missing(&frames::WANTED);
+    let settings = day::judge(&file).expect("a good file").settings;
+    for setting in cases::days::all_settings() {
+        if !settings.contains(&setting) {
+            missing.push(format!("{setting:?}"));
+        }
+    }
+    missing
+}
+
+fn write(path: &str, content: &[u8]) {
+    if let Err(error) = fs::write(path, content) {
+        panic!("{path} can't be written: {error}");
+    }
 }
 
 fn usage() -> ExitCode {
     eprintln!("usage: trials frames|wishes SEED LINES INPUT OUTPUT");
+    eprintln!("       trials keep SEED LINES INPUT OUTPUT ERRORS");
+    eprintln!("       trials show INPUT OUTPUT");
+    eprintln!("       trials files SEED INPUT OUTPUT");
     eprintln!("SEED and LINES are whole numbers");
     ExitCode::from(2)
 }
