@@ -1,5 +1,6 @@
 /* The digital half of a LoRa transceiver: payload bytes to symbol numbers, symbol numbers to payload, the header alone,
- * the symbol count, the time on air. Explicit header only. Link with liblora_c.a (x86-64 Linux).
+ * the symbol count, the time on air. Explicit header only. And the day's file: what was received in a day, written, checked
+ * and walked. Link with liblora_c.a (x86-64 Linux).
  *
  * Symbol numbers count from 0 at the preamble's chirp; a station that counts from 1 subtracts first.
  *
@@ -16,11 +17,11 @@
  * checksum on at 4/5, 4/6 and 4/8, more often at 4/7 or with the checksum off (measured: reference/run misread).
  *
  * Ranges: SF 7 to 12, CR 1 to 4 (4/5 to 4/8), length 0 to 255, bandwidth 125, 250 or 500 kHz, preamble any 16-bit number.
- * The largest frame has 832 symbols, the longest payload 255 bytes.
+ * The largest frame has 832 symbols, the longest payload 255 bytes, the longest file of a day 67,603 bytes.
  *
  * What a function returns:
  *   0          accepted; `answer` holds the values told at the function, from answer[0] on
- *   1 to 13    refused; answer[0] holds the place, and nothing else is written
+ *   1 to 16    refused; answer[0] holds the place, and nothing else is written
  *   255        `answer` has too few cells; nothing is written
  * Cells of `answer` and of `out` that are not named stay as they were.
  *
@@ -38,8 +39,19 @@
  *   LORA_HEADER_CR        11   header CR is 0, 5, 6 or 7                                0
  *   LORA_CHECKSUM         12   payload checksum wrong                                   0
  *   LORA_BAD_BANDWIDTH    13   bandwidth not 125, 250 or 500                            0
+ *   LORA_FILE_LENGTH      15   bytes of a day's file are missing                        the file's length
+ *                              bytes of a day's file are left over                      the first of them
+ *   LORA_FILE_FIELD       16   a field of a day's file is outside its range             its byte
+ *                              entries that a day's file can't hold (day_write)         0
  *
- * Codewords are numbered through the frame from 0, block after block, fillers counted.
+ * Codewords are numbered through the frame from 0, block after block, fillers counted. 14 is a number of the programs.
+ *
+ * The day's file: a first byte 1; then settings, frames and refused frames, each section after its number of entries in one
+ * byte. A byte is a number, repairs and place take two, low first:
+ *   a setting          SF, low-rate flag                                                        no pair twice
+ *   a frame            settings index, CR, checksum flag, repairs (2), length, payload
+ *   a refused frame    settings index, number (4 to 12), place (2)
+ * Here a flag is 0 or 1, and an index below the number of settings. Repairs, place and length may be any number.
  */
 #ifndef LORA_H
 #define LORA_H
@@ -48,9 +60,9 @@
 #include <stdint.h>
 
 #define LORA_VERSION_MAJOR 1
-#define LORA_VERSION_MINOR 1
+#define LORA_VERSION_MINOR 2
 #define LORA_VERSION_PATCH 0
-#define LORA_VERSION "1.1.0"
+#define LORA_VERSION "1.2.0"
 
 #ifdef __cplusplus
 extern "C" {
@@ -71,6 +83,8 @@ enum {
     LORA_HEADER_CR = 11,
     LORA_CHECKSUM = 12,
     LORA_BAD_BANDWIDTH = 13,
+    LORA_FILE_LENGTH = 15,
+    LORA_FILE_FIELD = 16,
     LORA_ANSWER_SHORT = 255
 };
 
@@ -92,6 +106,8 @@ static inline const char *lora_meaning(uint8_t number)
     case LORA_HEADER_CR: return "header CR is 0, 5, 6 or 7";
     case LORA_CHECKSUM: return "payload checksum wrong";
     case LORA_BAD_BANDWIDTH: return "bandwidth not 125, 250 or 500";
+    case LORA_FILE_LENGTH: return "bytes of a day's file missing or left over";
+    case LORA_FILE_FIELD: return "a field of a day's file outside its range";
     case LORA_ANSWER_SHORT: return "answer has too few cells";
     default: return "no number of this library";
     }
@@ -101,12 +117,25 @@ static inline const char *lora_meaning(uint8_t number)
 enum {
     LORA_MAX_SYMBOLS = 832,
     LORA_MAX_PAYLOAD = 255,
+    LORA_MAX_FILE = 67603,
     LORA_COUNT_CELLS = 1,
     LORA_AIRTIME_CELLS = 1,
     LORA_CODE_CELLS = 1,
     LORA_HEAD_CELLS = 3,
-    LORA_READ_CELLS = 5
+    LORA_READ_CELLS = 5,
+    LORA_DAY_WRITE_CELLS = 1,
+    LORA_DAY_CHECK_CELLS = 3,
+    LORA_DAY_STEP_CELLS = 11
 };
+
+/* Numbers in a row of day_write. */
+enum { LORA_SETTING_ROW = 2, LORA_FRAME_ROW = 5, LORA_REFUSED_ROW = 3 };
+
+/* Sections of a day's file, as day_step takes and answers them. */
+enum { LORA_AT_START = 0, LORA_IN_SETTINGS = 1, LORA_IN_FRAMES = 2, LORA_IN_REFUSED = 3 };
+
+/* What stands at a place of a day's file, as day_step answers it. */
+enum { LORA_END = 0, LORA_SETTING = 1, LORA_FRAME = 2, LORA_REFUSED = 3 };
 
 /* count: settings and a length; answers the number of symbols.
  * Checks 1, 2, 3. `answer` needs 1 cell: [0] number of symbols. */
@@ -136,6 +165,41 @@ uint8_t lora_head(uint8_t sf, const uint16_t *symbols, size_t symbols_len, uint6
  * `answer` needs 5 cells: [0] length, [1] CR, [2] checksum flag (0 or 1), [3] symbols used, [4] codewords repaired. */
 uint8_t lora_read(uint8_t sf, uint8_t low, const uint16_t *symbols, size_t symbols_len, uint8_t *out, size_t out_len,
                   uint64_t *answer, size_t answer_len);
+
+/* day_write: a day's entries as rows of numbers; fills the lent byte buffer `out` from out[0] on with the day's file;
+ * answers its length. Rows stand one behind the other, payloads too, in the order of the frames:
+ *   settings   SF, low-rate flag                                   `settings_len` is 2 for each
+ *   frames     settings index, CR, checksum flag, repairs, length  `frames_len` is 5 for each
+ *   payloads   as many bytes of each frame as its length says
+ *   refused    settings index, number, place                       `refused_len` is 3 for each
+ * Checks 16, place 0: a row cut short, a number outside its range, a pair of settings given twice, a length above 255,
+ * lengths that don't add up to `payloads_len`, more than 255 rows of a kind; then 4. After a refusal `out` is as it was.
+ * LORA_MAX_FILE bytes are always enough. `answer` needs 1 cell: [0] the file's length. */
+uint8_t lora_day_write(const uint8_t *settings, size_t settings_len, const uint16_t *frames, size_t frames_len,
+                       const uint8_t *payloads, size_t payloads_len, const uint16_t *refused, size_t refused_len,
+                       uint8_t *out, size_t out_len, uint64_t *answer, size_t answer_len);
+
+/* day_check: any bytes; answers how many entries the day's file has. A file that is accepted is the one that day_write
+ * makes of its entries.
+ * Checks 15 and 16 from the first byte on: the first byte at fault decides. A pair of settings given again is at fault at
+ * its flag. `answer` needs 3 cells: [0] settings, [1] frames, [2] refused frames. */
+uint8_t lora_day_check(const uint8_t *file, size_t file_len, uint64_t *answer, size_t answer_len);
+
+/* day_step: any bytes and a place in them; answers the entry that stands there and the place behind it. A walk starts at
+ * 0, LORA_AT_START, 0, 0 and goes on from the place that was answered, to LORA_END. A place is the next byte `at`, its
+ * section (any number above 3 is as 3), how many entries the section has left, and the settings that an index may name.
+ * Where none is left the next section's number of entries is read first; at the start, the first byte and the number of
+ * settings.
+ * Checks 15 and 16 for what it reads, as day_check does; behind the last refused frame 15 if `at` is not the file's length.
+ * Walk a file that day_check accepted, and no step is refused.
+ * `answer` needs 11 cells: [0] what stands there. Of LORA_END no more is answered. Of the others the place behind it:
+ * [1] at, [2] section, [3] left, [4] settings; then
+ *   LORA_SETTING   [5] SF, [6] low-rate flag
+ *   LORA_FRAME     [5] settings index, [6] CR, [7] checksum flag, [8] repairs, [9] start and [10] end of the payload: it is
+ *                  the bytes of `file` from the start on, up to the end and without it
+ *   LORA_REFUSED   [5] settings index, [6] number, [7] place */
+uint8_t lora_day_step(const uint8_t *file, size_t file_len, size_t at, uint8_t section, size_t left, size_t settings,
+                      uint64_t *answer, size_t answer_len);
 
 #ifdef __cplusplus
 }

@@ -2,10 +2,11 @@
 //! functions at the top of this crate are safe and do all that these do.
 //!
 //! A list is a pointer and then its number of elements. A flag (`low`,
-//! `checksum`) is 0 for off, any other number for on.
+//! `checksum`) is 0 for off, any other number for on; in a day's file it is 0 or
+//! 1.
 //!
 //! Each function returns 0 for an acceptance, with the values told at the
-//! function in `answer`; 1 to 13 for a refusal, with its place in `answer[0]`
+//! function in `answer`; 1 to 16 for a refusal, with its place in `answer[0]`
 //! and nothing else written; [`ANSWER_SHORT`] where `answer` has too few cells,
 //! with nothing written. Cells that are not named stay as they were.
 //!
@@ -27,6 +28,13 @@ pub const HEAD_CELLS: usize = 3;
 /// Cells of `answer` that read needs: length, CR, checksum flag, symbols used,
 /// codewords repaired.
 pub const READ_CELLS: usize = 5;
+/// Cells of `answer` that day_write needs: the file's length.
+pub const DAY_WRITE_CELLS: usize = 1;
+/// Cells of `answer` that day_check needs: settings, frames, refused frames.
+pub const DAY_CHECK_CELLS: usize = 3;
+/// Cells of `answer` that day_step needs: what stands there, the place behind it
+/// in four cells, the fields in up to six.
+pub const DAY_STEP_CELLS: usize = 11;
 
 extern "C" {
     /// Answers the number of symbols in `answer[0]`. Checks 1, 2, 3.
@@ -89,6 +97,51 @@ extern "C" {
         symbols_len: usize,
         out: *mut u8,
         out_len: usize,
+        answer: *mut u64,
+        answer_len: usize,
+    ) -> u8;
+
+    /// Writes the day's file from `out[0]` on and answers its length in
+    /// `answer[0]`. Rows of numbers stand one behind the other: a setting is 2, a
+    /// frame 5, a refused frame 3. Checks 16, then 4.
+    pub fn lora_day_write(
+        settings: *const u8,
+        settings_len: usize,
+        frames: *const u16,
+        frames_len: usize,
+        payloads: *const u8,
+        payloads_len: usize,
+        refused: *const u16,
+        refused_len: usize,
+        out: *mut u8,
+        out_len: usize,
+        answer: *mut u64,
+        answer_len: usize,
+    ) -> u8;
+
+    /// Answers the numbers of settings, frames and refused frames in `answer[0]`
+    /// to `answer[2]`. Checks 15 and 16, the first byte at fault first.
+    pub fn lora_day_check(
+        file: *const u8,
+        file_len: usize,
+        answer: *mut u64,
+        answer_len: usize,
+    ) -> u8;
+
+    /// Answers what stands at a place: `answer[0]` is 0 at the end, 1 for a
+    /// setting, 2 for a frame, 3 for a refused frame. The section is 0 at the
+    /// start, 1 in the settings, 2 in the frames, 3 or more in the refused
+    /// frames. But at the end, the place behind the entry is in `answer[1]` to
+    /// `answer[4]` and the entry's fields from `answer[5]` on: SF and flag; or
+    /// settings index, CR, flag, repairs, start and end of the payload; or
+    /// settings index, number and place. Checks 15 and 16.
+    pub fn lora_day_step(
+        file: *const u8,
+        file_len: usize,
+        at: usize,
+        section: u8,
+        left: usize,
+        settings: usize,
         answer: *mut u64,
         answer_len: usize,
     ) -> u8;

@@ -1,7 +1,9 @@
 //! The digital half of a LoRa transceiver: payload bytes to symbol numbers
 //! ([`code`]), symbol numbers to payload ([`read`]), the header alone
 //! ([`head`]), the number of symbols ([`count`]), the time on air
-//! ([`airtime`]). Explicit header only.
+//! ([`airtime`]). Explicit header only. And the day's file, what was received in
+//! a day: written ([`day_write`]), checked ([`day_check`]) and walked
+//! ([`day_step`]).
 //!
 //! This is a thin wrapper of Chyvandra's static library, whose functions are
 //! proved to answer what is told here for every input: slices and `Result` here,
@@ -35,9 +37,14 @@
 
 #![warn(missing_docs)]
 
+mod day;
 pub mod ffi;
 mod refusal;
 
+pub use day::{
+    day_check, day_step, day_write, DayCounts, DayEntry, DayFrame, DayPlace, DayRefused,
+    DaySection, DaySetting, LONGEST_FILE,
+};
 pub use refusal::{Refusal, RefusalKind};
 
 /// The most symbols that a frame can have: so many cells are always enough for

@@ -36,12 +36,18 @@ pub enum RefusalKind {
     Checksum = 12,
     /// 13: bandwidth not 125, 250 or 500.
     BadBandwidth = 13,
+    /// 15: bytes of a day's file are missing, and the place is the file's length;
+    /// or left over, and the place is the first of them.
+    FileLength = 15,
+    /// 16: a field of a day's file is outside its range, and the place is its
+    /// byte; or a day's file can't hold the entries, and the place is 0.
+    FileField = 16,
 }
 
 use RefusalKind::*;
 
-/// The kinds in the order of their numbers, from 1 on.
-const KINDS: [RefusalKind; 13] = [
+/// All kinds. 14 is a number of the programs alone.
+const KINDS: [RefusalKind; 15] = [
     BadSf,
     BadCr,
     TooLong,
@@ -55,12 +61,14 @@ const KINDS: [RefusalKind; 13] = [
     HeaderCr,
     Checksum,
     BadBandwidth,
+    FileLength,
+    FileField,
 ];
 
 impl RefusalKind {
     /// The kind with this number, if there is one.
     pub fn from_number(number: u8) -> Option<RefusalKind> {
-        KINDS.get(usize::from(number).checked_sub(1)?).copied()
+        KINDS.into_iter().find(|kind| *kind as u8 == number)
     }
 
     /// What the number means, in words.
@@ -79,6 +87,8 @@ impl RefusalKind {
             HeaderCr => "header CR is 0, 5, 6 or 7",
             Checksum => "payload checksum wrong",
             BadBandwidth => "bandwidth not 125, 250 or 500",
+            FileLength => "bytes of a day's file missing or left over",
+            FileField => "a field of a day's file outside its range",
         }
     }
 }
@@ -93,7 +103,7 @@ pub struct Refusal {
 }
 
 impl Refusal {
-    /// The refusal's number, 1 to 13.
+    /// The refusal's number, 1 to 16.
     pub fn number(&self) -> u8 {
         self.kind as u8
     }
