@@ -1,7 +1,8 @@
 /* How deep each function of the library reaches into the stack. A thread calls it on a stack that was painted before, and
  * looks up the deepest byte that is not paint any more. Every setting is tried, with short and long frames, clean and
- * spoiled. The small frame of the calling function and the arguments that it pushes are counted in; what the dynamic
- * loader needs to bind memcpy and memset at their first call is not. */
+ * spoiled; and days without entries and with many, their files good and spoiled. The small frame of the calling function
+ * and the arguments that it pushes are counted in; what the dynamic loader needs to bind memcpy and memset at their first
+ * call is not. */
 #define _POSIX_C_SOURCE 200809L
 #include <pthread.h>
 #include <stdio.h>
@@ -20,7 +21,12 @@ static uint8_t sf, low, cr, checksum;
 static size_t length, count;
 static uint8_t payload[LORA_MAX_PAYLOAD], out[LORA_MAX_PAYLOAD];
 static uint16_t symbols[LORA_MAX_SYMBOLS];
-static uint64_t answer[LORA_READ_CELLS];
+static uint64_t answer[LORA_DAY_STEP_CELLS];
+static uint8_t settings[12 * LORA_SETTING_ROW], payloads[255 * LORA_MAX_PAYLOAD], file[LORA_MAX_FILE];
+static uint16_t frames[255 * LORA_FRAME_ROW], refused[255 * LORA_REFUSED_ROW];
+static size_t settings_len, frames_len, payloads_len, refused_len, file_len;
+static size_t at, left, named;
+static uint8_t section;
 
 static void call_code(void)
 {
@@ -47,6 +53,22 @@ static void call_airtime(void)
     lora_airtime(sf, low, cr, checksum, length, 125, 8, answer, LORA_AIRTIME_CELLS);
 }
 
+static void call_day_write(void)
+{
+    lora_day_write(settings, settings_len, frames, frames_len, payloads, payloads_len, refused, refused_len, file,
+                   sizeof file, answer, LORA_DAY_WRITE_CELLS);
+}
+
+static void call_day_check(void)
+{
+    lora_day_check(file, file_len, answer, LORA_DAY_CHECK_CELLS);
+}
+
+static void call_day_step(void)
+{
+    lora_day_step(file, file_len, at, section, left, named, answer, LORA_DAY_STEP_CELLS);
+}
+
 static struct function {
     const char *name;
     void (*call)(void);
@@ -55,7 +77,11 @@ static struct function {
     {"lora_code", call_code, 0},   {"lora_read", call_read, 0},       {"lora_head", call_head, 0},
     {"lora_count", call_count, 0}, {"lora_airtime", call_airtime, 0},
 };
+static struct function day_functions[] = {
+    {"lora_day_write", call_day_write, 0}, {"lora_day_check", call_day_check, 0}, {"lora_day_step", call_day_step, 0},
+};
 enum { FUNCTIONS = sizeof functions / sizeof functions[0] };
+enum { WRITE, CHECK, STEP, DAY_FUNCTIONS };
 
 /* Makes the call and looks for its traces at once: the end of a thread leaves others. */
 static void *called_on_painted_stack(void *function)
@@ -114,6 +140,87 @@ static void measure_setting(void)
     }
 }
 
+/* Rows of so many entries, with payloads of so many bytes. */
+static void make_rows(size_t entries, size_t bytes)
+{
+    size_t i;
+
+    settings_len = sizeof settings;
+    for (i = 0; i < settings_len / LORA_SETTING_ROW; i++) {
+        settings[2 * i] = (uint8_t)(7 + i / 2);
+        settings[2 * i + 1] = (uint8_t)(i % 2);
+    }
+    frames_len = entries * LORA_FRAME_ROW;
+    refused_len = entries * LORA_REFUSED_ROW;
+    payloads_len = entries * bytes;
+    for (i = 0; i < entries; i++) {
+        uint16_t *frame = frames + i * LORA_FRAME_ROW, *other = refused + i * LORA_REFUSED_ROW;
+
+        frame[0] = other[0] = (uint16_t)(i % 12);
+        frame[1] = (uint16_t)(1 + i % 4);
+        frame[2] = (uint16_t)(i % 2);
+        frame[3] = (uint16_t)(i % 20);
+        frame[4] = (uint16_t)bytes;
+        other[1] = (uint16_t)(4 + i % 9);
+        other[2] = (uint16_t)(i % 832);
+    }
+}
+
+/* Walks the file, as far as that goes. */
+static void measure_walk(void)
+{
+    at = left = named = 0;
+    section = LORA_AT_START;
+    for (;;) {
+        measure(&day_functions[STEP]);
+        if (lora_day_step(file, file_len, at, section, left, named, answer, LORA_DAY_STEP_CELLS) != LORA_OK ||
+            answer[0] == LORA_END)
+            return;
+        at = (size_t)answer[1];
+        section = (uint8_t)answer[2];
+        left = (size_t)answer[3];
+        named = (size_t)answer[4];
+    }
+}
+
+/* Writes a day and reads its file, whole, cut and with a byte changed. */
+static void measure_day(size_t entries, size_t bytes)
+{
+    size_t i;
+
+    make_rows(entries, bytes);
+    measure(&day_functions[WRITE]);
+    call_day_write();
+    file_len = (size_t)answer[0];
+    measure(&day_functions[CHECK]);
+    measure_walk();
+    for (i = 1; i < file_len; i += 1 + file_len / 20) {
+        uint8_t kept = file[i];
+
+        file[i] = 255;
+        measure(&day_functions[CHECK]);
+        file[i] = kept;
+    }
+    file_len--;
+    measure(&day_functions[CHECK]);
+    /* One payload byte too many. */
+    payloads_len++;
+    measure(&day_functions[WRITE]);
+}
+
+/* Prints each function's depth; answers the deepest of them and of those before. */
+static size_t printed(const struct function *some, size_t number, size_t deepest)
+{
+    size_t i;
+
+    for (i = 0; i < number; i++) {
+        printf("%s: %zu bytes\n", some[i].name, some[i].deepest);
+        if (some[i].deepest > deepest)
+            deepest = some[i].deepest;
+    }
+    return deepest;
+}
+
 int main(void)
 {
     size_t i, deepest = 0;
@@ -125,11 +232,11 @@ int main(void)
             for (cr = 1; cr <= 4; cr++)
                 for (checksum = 0; checksum <= 1; checksum++)
                     measure_setting();
-    for (i = 0; i < FUNCTIONS; i++) {
-        printf("%s: %zu bytes\n", functions[i].name, functions[i].deepest);
-        if (functions[i].deepest > deepest)
-            deepest = functions[i].deepest;
-    }
+    measure_day(0, 0);
+    measure_day(3, 20);
+    measure_day(255, 254);
+    deepest = printed(functions, FUNCTIONS, deepest);
+    deepest = printed(day_functions, DAY_FUNCTIONS, deepest);
     printf("deepest: %zu bytes of stack\n", deepest);
     return 0;
 }

@@ -1,10 +1,12 @@
-//! `code` and `read` written for speed: tables and word operations, no grid of
-//! bits and no allocation. The tests hold it against `plain`.
+//! `code`, `read` and the day's file written for speed: tables and word
+//! operations, no grid of bits and no allocation. The tests hold it against
+//! `plain`.
 //!
 //! A block is held as eight lanes of 16 bits in one 128-bit word: lane j is
 //! column j of the block, its bit r is bit j of codeword r. The diagonal is
 //! then a rotation of lane j by j places among N.
 
+pub mod day;
 mod tables;
 
 use crate::types::{refuse, Header, Received, Refusal, Settings};

@@ -1,4 +1,6 @@
-//! What goes into the five operations and what comes out of them.
+//! What goes into the operations and what comes out of them.
+
+use crate::plain::day::{Counts, Entry, Place};
 
 /// The sender's settings. `sf` and `cr` may be out of range: the operations
 /// refuse them.
@@ -48,3 +50,9 @@ pub fn refuse<T>(number: u8, place: usize) -> Result<T, Refusal> {
 pub type Code = fn(&Settings, &[u8], &mut [u16]) -> Result<usize, Refusal>;
 /// An implementation of read.
 pub type Read = fn(u8, bool, &[u16], &mut [u8]) -> Result<Received, Refusal>;
+/// An implementation of the day's file: its writer, over rows of numbers.
+pub type DayWrite = fn(&[u8], &[u16], &[u8], &[u16], &mut [u8]) -> Result<usize, Refusal>;
+/// Its check.
+pub type DayCheck = fn(&[u8]) -> Result<Counts, Refusal>;
+/// Its step.
+pub type DayStep = fn(&[u8], Place) -> Result<(Entry, Place), Refusal>;

@@ -192,6 +192,23 @@ pub fn judge(file: &[u8]) -> Result<Day, Refusal> {
     Ok(day)
 }
 
+/// How many entries a file has.
+#[derive(Clone, Copy, Debug, PartialEq, Eq)]
+pub struct Counts {
+    pub settings: usize,
+    pub frames: usize,
+    pub refused: usize,
+}
+
+/// The judgement, with the entries counted only.
+pub fn check(file: &[u8]) -> Result<Counts, Refusal> {
+    judge(file).map(|day| Counts {
+        settings: day.settings.len(),
+        frames: day.frames.len(),
+        refused: day.refused.len(),
+    })
+}
+
 /// The parts of a file, in their order.
 #[derive(Clone, Copy, Debug, PartialEq, Eq)]
 pub enum Section {

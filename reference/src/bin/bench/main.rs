@@ -1,5 +1,6 @@
 //! How fast the product's library is, next to `plain` and `tuned`.
 
+mod day;
 mod measure;
 
 fn main() {
@@ -7,6 +8,10 @@ fn main() {
     measure::compare_implementations();
     println!();
     measure::show_linearity();
+    println!();
+    day::compare_implementations();
+    println!();
+    day::show_linearity();
 }
 
 /// The kind of machine that the times are of.

@@ -12,7 +12,7 @@ const REPEAT: Duration = Duration::from_micros(300);
 /// The best of so many repeats counts.
 const REPEATS: usize = 5;
 /// The implementations take short turns, so that a slow spell meets them all.
-const ROUNDS: usize = 50;
+pub const ROUNDS: usize = 50;
 
 struct Implementation {
     name: &'static str,
@@ -169,7 +169,7 @@ fn frames() -> impl Iterator<Item = (u8, usize, u8)> {
 }
 
 /// Seconds a call, the best of some repeats.
-fn best(mut call: impl FnMut()) -> f64 {
+pub fn best(mut call: impl FnMut()) -> f64 {
     let mut time = |calls: u32| {
         let start = Instant::now();
         (0..calls).for_each(|_| call());

@@ -115,7 +115,7 @@ fn flag_byte(flag: bool, random: &mut Random) -> u8 {
 }
 
 /// Few cells, just enough, one too few or some to spare.
-fn cells_around(needed: usize, random: &mut Random) -> usize {
+pub fn cells_around(needed: usize, random: &mut Random) -> usize {
     match random.below(8) {
         0 => random.below(needed + 1),
         1 => needed.saturating_sub(1),

@@ -1,9 +1,17 @@
-//! Holds the product's library against `plain`: `compare [SEED [COUNT]]`.
+//! Holds the product's library against `plain`: `compare [SEED [COUNT]]`. COUNT
+//! inputs go to the five operations, half as many to the day's file.
 
 mod case;
+mod cells;
+mod day_case;
+mod day_outcome;
 mod outcome;
 
+use case::Case;
+use day_case::DayCase;
+use reference::cases::days;
 use reference::random::Random;
+use std::fmt::Debug;
 use std::process::ExitCode;
 
 /// So many inputs go by between two signs of work.
@@ -25,24 +33,55 @@ fn main() -> ExitCode {
     };
     println!("seed {seed}");
     let mut random = Random::new(seed);
-    let mut differed = 0;
-    for done in 0..count {
-        if done > 0 && done % STEP == 0 {
-            eprintln!("compared {done} of {count}");
-        }
-        let case = case::Case::new(&mut random);
-        let Some(difference) = outcome::difference(&case, &mut random) else {
-            continue;
-        };
-        if differed == 0 {
-            println!("{case:?}\n{difference}");
-        }
-        differed += 1;
+    let mut comparison = Comparison {
+        wanted: count + count / 2,
+        compared: 0,
+        differed: 0,
+    };
+    for _ in 0..count {
+        let case = Case::new(&mut random);
+        let difference = outcome::difference(&case, &mut random);
+        comparison.add(&case, difference);
     }
-    println!("compared {count}, differed {differed}");
+    // Every damage of a small file first, as far as the inputs go.
+    let mut files = days::every_damage(&days::file_of(&days::small())).into_iter();
+    for _ in 0..count / 2 {
+        let case = match files.next() {
+            Some(file) => DayCase::check(file, &mut random),
+            None => DayCase::new(&mut random),
+        };
+        let difference = day_outcome::difference(&case, &mut random);
+        comparison.add(&case, difference);
+    }
+    let Comparison {
+        compared, differed, ..
+    } = comparison;
+    println!("compared {compared}, differed {differed}");
     if differed == 0 {
         ExitCode::SUCCESS
     } else {
         ExitCode::FAILURE
+    }
+}
+
+struct Comparison {
+    wanted: u64,
+    compared: u64,
+    differed: u64,
+}
+
+impl Comparison {
+    /// Counts a case, and prints the first that differs.
+    fn add(&mut self, case: &impl Debug, difference: Option<String>) {
+        if let Some(difference) = difference {
+            if self.differed == 0 {
+                println!("{case:?}\n{difference}");
+            }
+            self.differed += 1;
+        }
+        self.compared += 1;
+        if self.compared.is_multiple_of(STEP) {
+            eprintln!("compared {} of {}", self.compared, self.wanted);
+        }
     }
 }

@@ -1,14 +1,11 @@
 //! What an operation answers and leaves behind in every cell around it.
 
 use crate::case::{Case, Operation};
+use crate::cells::{lent, pointer, pointer_mut, put, with_margins};
 use chyvandra::ffi;
 use reference::random::Random;
 use reference::types::{Code, Header, Read, Refusal, Settings};
 use reference::{plain, product};
-use std::ptr;
-
-/// Cells on both sides of a lent array, which nobody may touch.
-const MARGIN: usize = 8;
 
 /// The three arrays an operation may write to, margins included.
 #[derive(Clone, Debug, PartialEq)]
@@ -21,22 +18,12 @@ struct Cells {
 impl Cells {
     /// Random cells: a value that happens to be right would hide a write.
     fn new(case: &Case, random: &mut Random) -> Cells {
-        let with_margins = |cells| cells + 2 * MARGIN;
         Cells {
-            answer: (0..with_margins(case.answer_len))
-                .map(|_| random.number())
-                .collect(),
-            symbols: (0..with_margins(case.out_len))
-                .map(|_| random.number() as u16)
-                .collect(),
-            bytes: random.bytes(with_margins(case.out_len)),
+            answer: with_margins(case.answer_len, || random.number()),
+            symbols: with_margins(case.out_len, || random.number() as u16),
+            bytes: with_margins(case.out_len, || random.byte()),
         }
     }
-}
-
-fn lent<T>(cells: &mut [T]) -> &mut [T] {
-    let end = cells.len() - MARGIN;
-    &mut cells[MARGIN..end]
 }
 
 /// The operations of one implementation.
@@ -125,12 +112,7 @@ fn told(operations: &Operations, case: &Case, mut cells: Cells) -> (u8, Cells) {
             (operations.airtime)(&settings, length, khz, preamble).map(|time| vec![time])
         }
     };
-    let (number, fields) = match result {
-        Ok(fields) => (0, fields),
-        Err(Refusal { number, place }) => (number, vec![place as u64]),
-    };
-    lent(&mut cells.answer)[..fields.len()].copy_from_slice(&fields);
-    (number, cells)
+    (put(result, &mut cells.answer), cells)
 }
 
 fn header_fields(header: &Header) -> Vec<u64> {
@@ -139,25 +121,6 @@ fn header_fields(header: &Header) -> Vec<u64> {
         header.cr.into(),
         header.checksum.into(),
     ]
-}
-
-/// A list's pointer as C may lend it: null where the list is empty. The wrapper's
-/// is never null, so both ways are compared.
-fn pointer<T>(list: &[T]) -> *const T {
-    if list.is_empty() {
-        ptr::null()
-    } else {
-        list.as_ptr()
-    }
-}
-
-/// The same for a list that may be written.
-fn pointer_mut<T>(list: &mut [T]) -> *mut T {
-    if list.is_empty() {
-        ptr::null_mut()
-    } else {
-        list.as_mut_ptr()
-    }
 }
 
 /// The library's answer through its C interface.

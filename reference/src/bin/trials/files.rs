@@ -1,8 +1,8 @@
 //! Files for the program that shows a day: good ones and every kind of damage,
 //! each with what is known of it from how it was made.
 
-use reference::cases::days::{all_settings, day, fields, Field};
-use reference::plain::day::{self as file, Day, Frame, RefusedFrame, Setting};
+use reference::cases::days::{all_settings, day, fields, file_of, small, Field};
+use reference::plain::day::{Day, Frame, RefusedFrame, Setting};
 use reference::random::Random;
 use reference::show::show;
 use std::collections::BTreeMap;
@@ -115,20 +115,16 @@ impl Files {
         self.taken(&Day::default());
         self.taken(&small());
         self.taken(&smallest());
-        let one = vec![Setting { sf: 7, low: 0 }];
+        let mut frame = smallest().frames[0].clone();
+        frame.setting = 0;
+        let settings = vec![Setting { sf: 7, low: 0 }];
         self.taken(&Day {
-            settings: one.clone(),
-            frames: vec![smallest().frames[0].clone(); 255]
-                .into_iter()
-                .map(|frame| Frame {
-                    setting: 0,
-                    ..frame
-                })
-                .collect(),
+            settings: settings.clone(),
+            frames: vec![frame; 255],
             refused: Vec::new(),
         });
         self.taken(&Day {
-            settings: one,
+            settings,
             frames: Vec::new(),
             refused: vec![smallest().refused[0]; 255],
         });
@@ -326,28 +322,6 @@ pub fn every_end() -> Day {
     }
 }
 
-/// Each section has more than one entry.
-fn small() -> Day {
-    let [a, b, c] = [(7, 1), (12, 0), (12, 1)].map(|(sf, low)| Setting { sf, low });
-    let frame = |setting, payload: &[u8]| Frame {
-        setting,
-        cr: 4,
-        flag: 1,
-        repairs: 258,
-        payload: payload.to_vec(),
-    };
-    let refused = |setting, number| RefusedFrame {
-        setting,
-        number,
-        place: 832,
-    };
-    Day {
-        settings: vec![a, b, c],
-        frames: vec![frame(2, &[1, 10, 255]), frame(0, &[])],
-        refused: vec![refused(1, 5), refused(2, 12)],
-    }
-}
-
 /// Each section has an entry, and there are two settings.
 fn smallest() -> Day {
     let [a, b] = [(7, 0), (12, 1)].map(|(sf, low)| Setting { sf, low });
@@ -386,9 +360,4 @@ fn longest() -> Day {
         frames: (0..255).map(frame).collect(),
         refused: (0..255).map(refused).collect(),
     }
-}
-
-/// The file of a day that can be written.
-pub fn file_of(day: &Day) -> Vec<u8> {
-    file::write(day).expect("a good day")
 }

@@ -14,7 +14,8 @@ mod spelling;
 mod tally;
 mod wishes;
 
-use files::{every_end, file_of, Files};
+use files::{every_end, Files};
+use reference::cases::days::{all_settings, file_of};
 use reference::plain::day;
 use reference::random::Random;
 use reference::{cases, keep, show, text, wish};
@@ -143,7 +144,7 @@ fn kept_day(
     println!("{}", told.lines().last().unwrap());
     let mut missing = tally.missing(&frames::WANTED);
     let settings = day::judge(&file).expect("a good file").settings;
-    for setting in cases::days::all_settings() {
+    for setting in all_settings() {
         if !settings.contains(&setting) {
             missing.push(format!("{setting:?}"));
         }
