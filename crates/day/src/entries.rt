@@ -91,7 +91,7 @@ pub fn frame_at(bytes: &[u8], at: usize, settings: usize) -> FrameAt
     let len = wide(byte_at(bytes, p5));
     if bytes.len() - start < len {
         return FrameAt::Stop {
-            number: refusal::FILE_BYTES,
+            number: refusal::FILE_LENGTH,
             place: bytes.len(),
         };
     }
@@ -222,7 +222,7 @@ pub fn setting_end(bytes: &[u8], at: usize) -> Went
     let before = settings_before(at);
     if is_given(bytes, 2, before, byte_at(bytes, at), byte_at(bytes, p1)) {
         return Went::Stop {
-            number: refusal::BAD_FIELD,
+            number: refusal::FILE_FIELD,
             place: p1,
         };
     }

@@ -25,10 +25,10 @@ pub fn fault(bytes: &[u8], at: usize, low: usize, end: usize) -> u8
     ensures { λ r. ⌜ r ≡ faultOf (isWithin low end) (now (bytes .entry)) at ⌝ }
 {
     if bytes.len() <= at {
-        return refusal::FILE_BYTES;
+        return refusal::FILE_LENGTH;
     }
     if !within(wide(bytes[at]), low, end) {
-        return refusal::BAD_FIELD;
+        return refusal::FILE_FIELD;
     }
     0
 }

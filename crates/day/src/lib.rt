@@ -80,7 +80,7 @@ fn refusal(part: Part) -> Verdict
 {
     match part {
         Part::Read { entries: _, at } => Verdict::Refused {
-            number: refusal::FILE_BYTES,
+            number: refusal::FILE_LENGTH,
             place: at,
         },
         Part::Stop { number, place } => Verdict::Refused { number, place },
@@ -124,7 +124,7 @@ pub fn check(bytes: &[u8]) -> Verdict
     };
     if end != bytes.len() {
         return Verdict::Refused {
-            number: refusal::FILE_BYTES,
+            number: refusal::FILE_LENGTH,
             place: end,
         };
     }

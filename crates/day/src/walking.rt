@@ -26,7 +26,7 @@ fn end_at(bytes: &[u8], at: usize) -> Entry
         Entry::End
     } else {
         Entry::Stop {
-            number: refusal::FILE_BYTES,
+            number: refusal::FILE_LENGTH,
             place: at,
         }
     }

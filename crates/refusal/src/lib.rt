@@ -28,6 +28,6 @@ pub const BAD_BANDWIDTH: u8 = 13;
 pub const BAD_TEXT: u8 = 14;
 
 // The numbers of document 02.
-pub const FILE_BYTES: u8 = 15;
+pub const FILE_LENGTH: u8 = 15;
 
-pub const BAD_FIELD: u8 = 16;
+pub const FILE_FIELD: u8 = 16;

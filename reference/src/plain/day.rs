@@ -304,8 +304,9 @@ struct Reader<'a> {
 impl Reader<'_> {
     /// The next byte, which has to be good.
     fn field(&mut self, good: impl Fn(u8) -> bool) -> Result<u8, Refusal> {
+        // From the file's start on this is its length; a walk may start beyond it.
         let Some(&byte) = self.file.get(self.at) else {
-            return refuse(15, self.file.len());
+            return refuse(15, self.at);
         };
         if !good(byte) {
             return refuse(16, self.at);
