@@ -427,12 +427,12 @@ fn walk_over_empty_sections() {
 #[test]
 fn places_of_no_walk() {
     use Section::*;
-    // Beyond the file: its next byte is missing.
+    // Beyond the file: the byte there is missing.
     for section in [Start, Settings, Frames] {
         let beyond = place(usize::MAX, section, 0, 0);
-        assert_eq!(step(&FILE, beyond), Err(refusal(15, 30)));
+        assert_eq!(step(&FILE, beyond), Err(refusal(15, usize::MAX)));
     }
-    assert_eq!(step(&FILE, place(31, Refused, 1, 1)), Err(refusal(15, 30)));
+    assert_eq!(step(&FILE, place(31, Refused, 1, 1)), Err(refusal(15, 31)));
     // Behind the last entry and not at the end.
     for at in [0, 29, 31, usize::MAX] {
         assert_eq!(step(&FILE, place(at, Refused, 0, 0)), Err(refusal(15, at)));
