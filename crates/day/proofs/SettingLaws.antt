@@ -15,12 +15,12 @@ use Rattle.day.specs.declared.entries.Went.the-variants.{On, Stop}
 use Rattle.day.proofs.ScriptLaws.{Stands, stands-split, stands-here, bind-on, bind-stop, done-back}
 use Rattle.day.proofs.DayLaws.{setting-lawful}
 
-put-setting : (s : Setting) → setting .put s ≡ (s .sf ∷ s .low ∷ [])
+pub put-setting : (s : Setting) → setting .put s ≡ (s .sf ∷ s .low ∷ [])
 unfolding setting
 put-setting s = refl
 
 module _ (bytes : List ℕ) where
-  stood : (j m : ℕ) (s : Setting) → Stands (s .sf ∷ s .low ∷ []) bytes (2 + 2 * j) m → (s ≡ pairAt 2 bytes j) × (m ≡ 2 + 2 * (j + 1))
+  pub stood : (j m : ℕ) (s : Setting) → Stands (s .sf ∷ s .low ∷ []) bytes (2 + 2 * j) m → (s ≡ pairAt 2 bytes j) × (m ≡ 2 + 2 * (j + 1))
   unfolding pairAt
   stood j m s p =
       let (first, rest) = stands-split bytes (s .sf ∷ []) (s .low ∷ []) (2 + 2 * j) m p in
