@@ -1,2 +1,3 @@
+pub mod Long
 pub mod Steps
 pub mod Walk
