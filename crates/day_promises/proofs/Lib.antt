@@ -1,3 +1,4 @@
+pub mod File
 pub mod Long
 pub mod Steps
 pub mod Walk
