@@ -1,26 +1,24 @@
 -- A section with its count, and the whole file, as the checks see them.
 -- Assumes nothing.
 use mathlib.Core.Path.{_≡_, refl, sym, ap, _∙_}
-use mathlib.Core.Bool.{Bool, true, false, _&&_, cond}
-use mathlib.Core.List.{List, [], _∷_, _++_}
-use Prim.Native.Nat.{ℕ, zero, suc, _+_, _-_, _*_, _<_, _≤_}
+use mathlib.Core.Bool.{Bool, true, false}
+use mathlib.Core.List.{List, []}
+use Prim.Native.Nat.{ℕ, _+_, _-_, _≤_}
 use native.Mathlib.Omega.{arith}
-use borrow.Author.Tests.{lt-ltb, le-ltb, le-leb, lt-leb, eq-eqb, ne-eqb, ltb-true, ltb-false, leb-true, leb-false, eqb-true, eqb-false}
+use borrow.Author.Tests.{le-leb, lt-leb, eq-eqb, ne-eqb, ltb-true, ltb-false, leb-true, leb-false}
 use lib.Dec.{ltb, leb, eqb}
 use lib.ListN.{length, getD}
-use Rattle.bits.specs.Check.{check}
-use Rattle.day.specs.Script.{Script, done, _>>=_, one, many, Walked, came, stop, walk, Judged, taken, refused, whole, Form}
-use Rattle.day.specs.Day.{Setting, Frame, RefusedFrame, Day, Kind, kind1, within, count, putCount, setting, frame, refusedFrame, section, day, judged}
-use Rattle.day.specs.Stages.{faultOf, spot, partOf, numbered, counted, refusalOf, verdict}
+use Rattle.day.specs.Script.{one, many, Walked, came, stop, walk, taken, refused, whole, Form}
+use Rattle.day.specs.Day.{Day, kind1, within, count, putCount, setting, frame, refusedFrame, section, day, judged}
+use Rattle.day.specs.Stages.{faultOf, spot, partOf, numbered, counted, verdict}
 use Rattle.day.specs.declared.entries.Went.{Went}
-use Rattle.day.specs.declared.entries.Went.the-variants.{On, Stop}
 use Rattle.day.specs.declared.sections.Part.{Part}
 use Rattle.day.specs.declared.sections.Part.the-variants.{Read, Stop as Ends}
 use Rattle.day.specs.declared.Verdict.{Verdict}
 use Rattle.day.specs.declared.Verdict.the-variants.{Taken, Refused}
-use Rattle.day.proofs.ScriptLaws.{bind-on, bind-stop, done-back, one-on, one-missing, one-outside, Lawful, many-only}
+use Rattle.day.proofs.ScriptLaws.{bind-on, bind-stop, done-back, Lawful, many-only}
 use Rattle.day.proofs.DayLaws.{count-spells}
-use Rattle.day.proofs.ReaderLaws.{one-cong, fault-walk, fault-stop, on, off}
+use Rattle.day.proofs.ReaderLaws.{one-cong, fault-walk, fault-stop}
 
 -- a byte is a count; the first byte is 1
 count-test : (b : ℕ) → leb b 255 ≡ within 0 256 b

@@ -1,17 +1,17 @@
 -- The day's file: what was written is read back, and a file that is taken is the only one for its entries.
 -- Assumes nothing.
-use mathlib.Core.Path.{_≡_, refl, sym, ap, _∙_}
-use mathlib.Core.Bool.{Bool, true, false, _&&_, cond}
-use mathlib.Core.List.{List, [], _∷_, _++_, append-assoc, append-nil}
-use Prim.Native.Nat.{ℕ, zero, suc, _+_, _-_, _*_, _/_, _%_, _<_, _≤_}
+use mathlib.Core.Path.{_≡_, refl, sym, _∙_}
+use mathlib.Core.Bool.{Bool, true, false}
+use mathlib.Core.List.{List, [], _∷_, append-nil}
+use Prim.Native.Nat.{ℕ, _+_, _-_, _*_, _/_, _%_, _<_, _≤_}
 use native.Mathlib.Omega.{arith}
 use borrow.Author.Tests.{lt-ltb, le-leb, ltb-true, leb-true, eqb-true, eq-eqb}
 use lib.Dec.{ltb, leb, eqb}
-use lib.ListN.{length, getD, drop, length-append, length-drop, drop-of-length-le}
+use lib.ListN.{length, drop, drop-of-length-le}
 use Rattle.bits.specs.Check.{check}
-use Rattle.day.specs.Script.{Script, done, byte, _>>=_, one, many, Walked, came, stop, walk, Judged, taken, refused, whole, Form, goodEach, putEach}
-use Rattle.day.specs.Day.{Setting, Frame, RefusedFrame, Day, Kind, isByte, isFlag, isSf, isCr, isNumber, given, isNew, two, lowFirst, count, putCount, setting, anyByte, frame, refusedFrame, section, goodSection, putSection, day, goodDay, fileOf, judged}
-use Rattle.day.proofs.ScriptLaws.{both-true, true-both, Stands, stands-none, stands-append, stands-split, bind-on, bind-only, done-only, done-back, one-only, one-back, byte-only, byte-back, Spells, Lawful, many-only, many-back}
+use Rattle.day.specs.Script.{one, Walked, came, stop, walk, taken, refused, whole, Form}
+use Rattle.day.specs.Day.{Day, Kind, isByte, two, lowFirst, count, putCount, setting, anyByte, frame, refusedFrame, section, goodSection, putSection, day, goodDay, fileOf, judged}
+use Rattle.day.proofs.ScriptLaws.{both-true, true-both, Stands, stands-append, stands-split, bind-on, bind-only, done-only, done-back, one-only, one-back, byte-only, byte-back, Spells, Lawful, many-only, many-back}
 
 -- two bytes low first
 two-spells : (most : ℕ) → most ≤ 65535 → Spells (two most) (λ n. leb n most) lowFirst

@@ -1,22 +1,21 @@
 -- Refused frames and settings, field by field.
 -- Assumes nothing.
-use mathlib.Core.Path.{_≡_, refl, sym, ap, _∙_}
+use mathlib.Core.Path.{_≡_, refl, sym, _∙_}
 use mathlib.Core.Bool.{Bool, true, false, not, _&&_, _||_}
 use mathlib.Core.List.{List, [], _∷_, _++_}
-use Prim.Native.Nat.{ℕ, zero, suc, _+_, _-_, _*_, _/_, _<_, _≤_}
+use Prim.Native.Nat.{ℕ, _+_, _-_, _*_, _/_}
 use native.Mathlib.Numerals.{add-one}
-use native.Mathlib.Omega.{arith}
-use borrow.Author.Tests.{lt-ltb, le-ltb, eq-eqb, ne-eqb, ltb-true}
+use borrow.Author.Tests.{eq-eqb, ne-eqb}
 use lib.Dec.{ltb, eqb}
 use lib.ListN.{length, getD}
 use Rattle.bits.specs.Check.{check}
 use Rattle.bits.specs.Tab.{tab}
-use Rattle.day.specs.Script.{Script, done, _>>=_, one, many, Walked, came, stop, walk}
+use Rattle.day.specs.Script.{one, came, stop, walk}
 use Rattle.day.specs.Day.{Setting, RefusedFrame, within, isFlag, isNew, given, isPair, setting, refusedFrame}
 use Rattle.day.specs.Stages.{faultOf, spot, pairAt, settingsBefore}
 use Rattle.day.specs.declared.entries.Went.{Went}
 use Rattle.day.specs.declared.entries.Went.the-variants.{On, Stop}
-use Rattle.day.proofs.ScriptLaws.{onto, walk-bind, bind-on, bind-stop, done-back, one-on, one-missing, one-outside}
+use Rattle.day.proofs.ScriptLaws.{bind-on, bind-stop, done-back, one-on, one-outside}
 use Rattle.day.proofs.ReaderLaws.{fault-there, on, off, two-on, two-off-low, two-off-high}
 
 pub refused-same : (n : ℕ) (before : List RefusedFrame) → refusedFrame n .read before ≡ refusedFrame n .read []

@@ -1,11 +1,9 @@
 -- Worked files, and what they are judged.
 -- Assumes nothing.
 use mathlib.Core.Path.{_≡_, refl}
-use mathlib.Core.Bool.{true}
-use mathlib.Core.List.{List, [], _∷_, _++_}
-use Prim.Native.Nat.{ℕ}
-use Rattle.day.specs.Script.{_>>=_, one, many, walk, Judged, taken, refused, goodEach, putEach}
-use Rattle.day.specs.Day.{Day, Kind, kind1, given, two, lowFirst, count, putCount, setting, anyByte, frame, refusedFrame, section, goodSection, putSection, day, goodDay, fileOf, judged}
+use mathlib.Core.List.{[], _∷_}
+use Rattle.day.specs.Script.{_>>=_, one, many, walk, taken, refused, putEach}
+use Rattle.day.specs.Day.{Day, kind1, given, two, lowFirst, count, putCount, setting, anyByte, frame, refusedFrame, section, putSection, day, fileOf, judged}
 
 abbrev one-frame : Day
 one-frame = record {

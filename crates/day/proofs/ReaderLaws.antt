@@ -1,22 +1,22 @@
 -- What the steps of the reader see, and what a script then does.
 -- Assumes nothing.
 use mathlib.Core.Path.{_≡_, refl, sym, ap, _∙_}
-use mathlib.Core.Bool.{Bool, true, false, _&&_}
+use mathlib.Core.Bool.{Bool, true, false}
 use mathlib.Core.List.{List, [], _∷_, _++_, append-assoc, append-nil}
 use Prim.Native.Nat.{ℕ, zero, suc, _+_, _-_, _*_, _<_, _≤_}
 use native.Mathlib.Numerals.{add-one}
 use native.Mathlib.Omega.{arith}
-use borrow.Author.Tests.{lt-ltb, le-ltb, le-leb, lt-leb, ltb-true, ltb-false, leb-true}
+use borrow.Author.Tests.{lt-ltb, le-ltb, le-leb, lt-leb, ltb-true, ltb-false}
 use lib.Dec.{ltb, leb}
 use lib.ListN.{length, getD, take, drop, length-drop}
-use lib.Seq.{drop-cons, take-suc, length-take-le}
+use lib.Seq.{drop-cons, length-take-le}
 use Rattle.bits.specs.Check.{check}
-use Rattle.day.specs.Script.{Script, done, byte, _>>=_, one, many, Walked, came, stop, walk}
-use Rattle.day.specs.Day.{Frame, within, isByte, two, anyByte, frame}
+use Rattle.day.specs.Script.{Script, byte, _>>=_, one, many, Walked, came, stop, walk}
+use Rattle.day.specs.Day.{within, isByte, two, anyByte, frame}
 use Rattle.day.specs.Stages.{faultOf, frameSeen}
 use Rattle.day.specs.declared.entries.FrameAt.{FrameAt}
 use Rattle.day.specs.declared.entries.FrameAt.the-variants.{Is, Stop}
-use Rattle.day.proofs.ScriptLaws.{both-true, true-both, bind-on, bind-stop, done-back, one-on, one-missing, one-outside}
+use Rattle.day.proofs.ScriptLaws.{both-true, true-both, bind-on, bind-stop, done-back, one-on, one-missing}
 
 -- the three answers of `fault`
 module _ (ok : ℕ → Bool) (bytes : List ℕ) (at : ℕ) where

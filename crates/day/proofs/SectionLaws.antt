@@ -4,12 +4,10 @@ use mathlib.Core.Path.{_≡_, refl, sym, ap, _∙_}
 use mathlib.Core.List.{List, [], _∷_, _++_}
 use Prim.Native.Nat.{ℕ, zero, suc, _+_, _-_, _<_, _≤_}
 use native.Mathlib.Omega.{arith}
-use Rattle.day.specs.Script.{Script, done, _>>=_, many, Walked, came, stop, walk}
+use Rattle.day.specs.Script.{Script, many, Walked, came, stop, walk}
 use Rattle.day.specs.Day.{Frame, frame}
 use Rattle.day.specs.Stages.{frameSeen, spot}
-use Rattle.day.specs.declared.entries.FrameAt.{FrameAt}
 use Rattle.day.specs.declared.entries.FrameAt.the-variants.{Is, Stop}
-use Rattle.day.specs.declared.entries.Went.{Went}
 use Rattle.day.specs.declared.entries.Went.the-variants.{On, Stop as Stays}
 use Rattle.day.proofs.ScriptLaws.{onto, walk-bind, bind-on, bind-stop, done-back}
 

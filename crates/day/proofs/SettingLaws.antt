@@ -1,13 +1,13 @@
 -- The settings section, one setting after the other, as a loop reads it.
 -- Assumes nothing.
 use mathlib.Core.Path.{_≡_, refl, sym, ap, _∙_}
-use mathlib.Core.List.{List, [], _∷_, _++_}
-use Prim.Native.Nat.{ℕ, zero, suc, _+_, _-_, _*_, _/_, _<_, _≤_}
+use mathlib.Core.List.{List, [], _∷_}
+use Prim.Native.Nat.{ℕ, suc, _+_, _-_, _*_, _/_, _<_}
 use native.Mathlib.Numerals.{add-one}
 use native.Mathlib.Omega.{arith}
-use lib.ListN.{length, getD}
+use lib.ListN.{getD}
 use Rattle.bits.specs.Tab.{tab}
-use Rattle.day.specs.Script.{Script, _>>=_, many, Walked, came, stop, walk}
+use Rattle.day.specs.Script.{many, Walked, came, stop, walk}
 use Rattle.day.specs.Day.{Setting, setting}
 use Rattle.day.specs.Stages.{spot, pairAt, settingsBefore}
 use Rattle.day.specs.declared.entries.Went.{Went}

@@ -1,23 +1,20 @@
 -- The entry at a place, as each section's step comes upon it.
 -- Assumes nothing.
 use mathlib.Core.Path.{_≡_, refl, sym, ap, _∙_}
-use mathlib.Core.Bool.{Bool, true, false, cond}
-use mathlib.Core.List.{List, [], _∷_, _++_}
-use Prim.Native.Nat.{ℕ, zero, suc, _+_, _-_, _*_, _/_, _%_, _<_, _≤_}
+use mathlib.Core.Bool.{false}
+use mathlib.Core.List.{List, [], _∷_}
+use Prim.Native.Nat.{ℕ, suc, _+_, _-_, _*_, _/_, _%_, _<_, _≤_}
 use native.Mathlib.Omega.{arith}
 use borrow.Author.Tests.{eq-eqb, ne-eqb}
 use lib.Dec.{eqb}
-use lib.ListN.{length, getD, take, drop, length-append, length-drop, List·getD-append}
+use lib.ListN.{length, getD, List·getD-append}
 use lib.Seq.{getD-drop}
-use Rattle.day.specs.Script.{Script, done, _>>=_, one, Walked, came, stop, walk}
-use Rattle.day.specs.Day.{Setting, Frame, RefusedFrame, Kind, kind1, within, count, lowFirst, setting, frame, refusedFrame}
+use Rattle.day.specs.Script.{one, Walked, came, stop, walk}
+use Rattle.day.specs.Day.{Setting, Frame, RefusedFrame, kind1, within, count, lowFirst, setting, frame, refusedFrame}
 use Rattle.day.specs.Stages.{faultOf, frameSeen, spot, counted, settingsBefore}
-use Rattle.day.specs.Walk.{Found, aSetting, aFrame, aRefused, theEnd, inRefused, inFrames, inSettings, atStart, entryOf, shown}
-use Rattle.day.specs.declared.entries.FrameAt.{FrameAt}
+use Rattle.day.specs.Walk.{inRefused, inFrames, inSettings, atStart, entryOf, shown}
 use Rattle.day.specs.declared.entries.FrameAt.the-variants.{Is, Stop as NoFrame}
-use Rattle.day.specs.declared.entries.Went.{Went}
 use Rattle.day.specs.declared.entries.Went.the-variants.{On, Stop as Stays}
-use Rattle.day.specs.declared.sections.Part.{Part}
 use Rattle.day.specs.declared.sections.Part.the-variants.{Read, Stop as Ends}
 use Rattle.day.specs.declared.Place.{Place}
 use Rattle.day.specs.declared.Entry.{Entry}

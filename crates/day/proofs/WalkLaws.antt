@@ -1,22 +1,20 @@
 -- Where a payload lies that was read, or that a walker shows.
 -- Assumes nothing.
-use mathlib.Core.Path.{_≡_, refl, sym, ap, _∙_}
+use mathlib.Core.Path.{_≡_, refl, ap}
 use mathlib.Core.Bool.{Bool, true, false, cond}
-use mathlib.Core.List.{List, [], _∷_, _++_, append-assoc}
+use mathlib.Core.List.{List, [], _∷_, _++_}
 use Prim.Native.Nat.{ℕ, zero, suc, _+_, _-_, _<_, _≤_}
 use native.Mathlib.Omega.{arith}
 use lib.Dec.{eqb}
 use lib.ListN.{length, take, drop, length-append, length-drop}
 use lib.Seq.{take-at}
-use Rattle.day.specs.Script.{Script, done, _>>=_, Walked, came, stop, walk, putEach}
+use Rattle.day.specs.Script.{Script, Walked, came, stop, walk, putEach}
 use Rattle.day.specs.Day.{Setting, Frame, Kind, frame, anyByte, lowFirst}
 use Rattle.day.specs.Stages.{frameSeen, settingsBefore}
 use Rattle.day.specs.Walk.{Found, aSetting, aFrame, aRefused, theEnd, inRefused, inFrames, inSettings, atStart, entryOf, from, shown}
 use Rattle.day.specs.declared.Place.{Place}
-use Rattle.day.specs.declared.Entry.{Entry}
-use Rattle.day.specs.declared.Entry.the-variants.{Setting as SettingHere, Frame as FrameHere, Refused as RefusedHere, End, Stop as Stopped}
-use Rattle.day.specs.declared.entries.FrameAt.{FrameAt}
-use Rattle.day.specs.declared.entries.FrameAt.the-variants.{Is, Stop}
+use Rattle.day.specs.declared.Entry.the-variants.{Frame as FrameHere, End, Stop as Stopped}
+use Rattle.day.specs.declared.entries.FrameAt.the-variants.{Is}
 use Rattle.day.proofs.ScriptLaws.{Stands, stands-split, bind-only, done-only}
 use Rattle.day.proofs.DayLaws.{frame-lawful}
 

@@ -1,8 +1,8 @@
 -- What the request promises of the day's file.
 -- Assumes nothing.
 use mathlib.Core.Path.{_≡_, refl, sym, _∙_}
-use mathlib.Core.Bool.{Bool, true}
-use mathlib.Core.List.{List, []}
+use mathlib.Core.Bool.{true}
+use mathlib.Core.List.{List}
 use Prim.Native.Nat.{ℕ}
 use native.Mathlib.Omega.{arith}
 use lib.ListN.{length, take}
@@ -13,7 +13,7 @@ use Rattle.day.specs.Walk.{shown}
 use Rattle.day.specs.declared.Place.{Place}
 use Rattle.day.specs.declared.Entry.{Entry}
 use Rattle.day.specs.declared.Verdict.{Verdict}
-use Rattle.day.specs.declared.Verdict.the-variants.{Taken, Refused}
+use Rattle.day.specs.declared.Verdict.the-variants.{Taken}
 use Rattle.day.proofs.DayLaws.{read-back, only-file}
 use Rattle.day_write.specs.Write.{entriesOf, Writing}
 use Rattle.day_write.specs.declared.Written.{Written}

@@ -1,9 +1,9 @@
 -- A file asks for 68,089 bytes at most, so more bytes than that need not be kept to judge it.
 -- Assumes nothing.
-use mathlib.Core.Path.{_≡_, refl, sym, ap, _∙_}
+use mathlib.Core.Path.{_≡_, refl}
 use mathlib.Core.Bool.{Bool, true, false}
 use mathlib.Core.List.{List, [], _∷_, _++_}
-use Prim.Native.Nat.{ℕ, zero, suc, _+_, _*_, _<_, _≤_}
+use Prim.Native.Nat.{ℕ, zero, suc, _+_, _*_, _≤_}
 use native.Mathlib.Nat.{mul-le-mul-right}
 use native.Mathlib.Omega.{arith}
 use borrow.Author.Tests.{lt-ltb, ltb-true, leb-true, ne-eqb}
@@ -11,7 +11,7 @@ use lib.Dec.{ltb, leb, eqb}
 use lib.ListN.{length, getD, take}
 use lib.Seq.{getD-take, length-take-le}
 use Rattle.bits.specs.Check.{check}
-use Rattle.day.specs.Script.{Form, Script, done, byte, _>>=_, one, many, Walked, came, stop, walk, Judged, taken, refused, whole}
+use Rattle.day.specs.Script.{Form, Script, done, byte, _>>=_, one, many, Walked, came, stop, walk, whole}
 use Rattle.day.specs.Day.{Setting, Frame, RefusedFrame, Day, kind1, within, isByte, isCr, isFlag, isNumber, two, count, setting, anyByte, frame, refusedFrame, section, day, judged}
 use Rattle.day.proofs.ScriptLaws.{both-true}
 

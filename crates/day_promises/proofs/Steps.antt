@@ -1,14 +1,13 @@
 -- A walk through the sections of a file that was read: each step tells the next entry.
 -- Assumes nothing.
-use mathlib.Core.Path.{_≡_, refl, sym, ap, _∙_}
+use mathlib.Core.Path.{_≡_, refl, sym, _∙_}
 use mathlib.Core.List.{List, [], _∷_, _++_, map, append-assoc, append-nil}
 use Prim.Native.Nat.{ℕ, zero, suc, _+_, _-_, _*_}
 use native.Mathlib.Numerals.{add-one}
-use native.Mathlib.Omega.{arith}
 use borrow.Author.Tests.{eq-eqb}
-use lib.ListN.{length, take, drop}
+use lib.ListN.{length}
 use Rattle.bits.specs.Tab.{tab}
-use Rattle.day.specs.Script.{Script, done, _>>=_, many, Walked, came, stop, walk}
+use Rattle.day.specs.Script.{many, came, walk}
 use Rattle.day.specs.Day.{Setting, Frame, RefusedFrame, Kind, setting, frame, refusedFrame}
 use Rattle.day.specs.Stages.{pairAt, settingsBefore}
 use Rattle.day.specs.Walk.{inRefused, inFrames, inSettings, entryOf, shown, payloadOf}

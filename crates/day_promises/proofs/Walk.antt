@@ -3,21 +3,21 @@
 use mathlib.Core.Path.{_≡_, refl, sym, ap, _∙_}
 use mathlib.Core.Bool.{Bool, true, false}
 use mathlib.Core.List.{List, [], _∷_, _++_, map}
-use Prim.Native.Nat.{ℕ, zero, suc, _+_, _*_}
+use Prim.Native.Nat.{ℕ, _+_}
 use native.Mathlib.Omega.{arith}
 use borrow.Author.Tests.{eqb-true}
 use lib.Dec.{eqb}
 use lib.ListN.{length, length-append, length-map}
 use Rattle.bits.specs.Check.{check}
 use Rattle.bits.specs.Tab.{tab}
-use Rattle.day.specs.Script.{Script, done, _>>=_, many, Walked, came, stop, walk, Judged, taken, refused, whole}
+use Rattle.day.specs.Script.{Script, _>>=_, many, Walked, came, stop, walk, taken, refused, whole}
 use Rattle.day.specs.Day.{Setting, Frame, RefusedFrame, Day, Kind, count, putCount, setting, frame, refusedFrame, section, day, judged}
-use Rattle.day.specs.Stages.{pairAt, settingsBefore}
-use Rattle.day.specs.Walk.{Found, inRefused, inFrames, inSettings, atStart, entryOf, shown, payloadOf, behind, begin}
+use Rattle.day.specs.Stages.{settingsBefore}
+use Rattle.day.specs.Walk.{Found, inRefused, inFrames, inSettings, atStart, entryOf, shown, behind, begin}
 use Rattle.day.specs.declared.Place.{Place}
 use Rattle.day.specs.declared.Entry.{Entry}
 use Rattle.day.specs.declared.Entry.the-variants.{Setting as SettingHere, Frame as FrameHere, Refused as RefusedHere, End, Stop}
-use Rattle.day.proofs.ScriptLaws.{bind-on, bind-only, done-only, done-back, one-only, many-only}
+use Rattle.day.proofs.ScriptLaws.{bind-on, bind-only, done-only, one-only, many-only}
 use Rattle.day.proofs.DayLaws.{setting-lawful, count-spells}
 use Rattle.day_promises.specs.Told.{Told, aSetting, aFrame, aRefused, told, toldIn, placeAfter, entriesIn, howMany}
 use Rattle.day_promises.proofs.Steps.{nextOf, Tells, SettingsTold, tells-refused, tells-frames, tells-settings}

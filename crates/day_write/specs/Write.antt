@@ -8,7 +8,7 @@ use lib.Dec.{leb, eqb}
 use lib.ListN.{length, getD, take, drop}
 use Rattle.bits.specs.Check.{check}
 use Rattle.bits.specs.Tab.{tab, placed}
-use Rattle.day.specs.Day.{Setting, Frame, RefusedFrame, Day, Kind, goodDay, fileOf}
+use Rattle.day.specs.Day.{Frame, RefusedFrame, Day, Kind, goodDay, fileOf}
 use Rattle.day.specs.Stages.{pairAt}
 use Rattle.day_write.specs.declared.Written.{Written}
 use Rattle.day_write.specs.declared.Written.the-variants.{Length, Refused}

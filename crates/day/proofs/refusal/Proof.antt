@@ -1,3 +1,5 @@
+-- `refusal` tells a section's refusal.
+-- Assumes nothing.
 use borrow.Author.Needs.{needs}
 use Rattle.day.proofs.refusal.Statement.{statement}
 use Rattle.day.proofs.refusal.Tie as tie

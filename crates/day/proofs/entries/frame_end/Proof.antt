@@ -1,3 +1,5 @@
+-- `frame_end` keeps the place behind a frame.
+-- Assumes nothing.
 use mathlib.Core.Path.{sym, _∙_}
 use Rattle.day.proofs.SectionLaws.{seen-on, seen-stop}
 use borrow.Author.Needs.{needs}

@@ -1,3 +1,5 @@
+-- `is_given` looks at one pair after the other.
+-- Assumes nothing.
 use mathlib.Core.Path.{_≡_}
 use Prim.Native.Nat.{_-_, _≤_}
 use native.Mathlib.Omega.{arith}

@@ -1,3 +1,5 @@
+-- `same_pair` compares SF, then the flag.
+-- Assumes nothing.
 use Rattle.day.proofs.EntryLaws.{pair-same, pair-other}
 use borrow.Author.Needs.{needs}
 use Rattle.day.proofs.entries.same_pair.Statement.{statement}

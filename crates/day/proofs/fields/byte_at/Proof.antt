@@ -1,3 +1,5 @@
+-- `byte_at` is the list's own default behind the end.
+-- Assumes nothing.
 use mathlib.Core.Path.{sym}
 use lib.ListN.{List·getD-eq-default}
 use borrow.Author.Needs.{needs}

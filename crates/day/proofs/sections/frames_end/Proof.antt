@@ -1,3 +1,5 @@
+-- `frames_end` goes from frame to frame: what was asked is what is left, from here.
+-- Assumes nothing.
 use mathlib.Core.Path.{_≡_, sym, _∙_}
 use mathlib.Core.List.{[]}
 use Prim.Native.Nat.{_-_, _≤_}

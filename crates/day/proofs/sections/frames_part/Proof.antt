@@ -1,3 +1,5 @@
+-- `frames_part` reads the count, then so many frames.
+-- Assumes nothing.
 use mathlib.Core.Path.{sym, _∙_}
 use Rattle.day.proofs.DayLaws.{frame-lawful}
 use Rattle.day.proofs.CheckLaws.{part-stop, part-whole, counted-came, counted-stop}

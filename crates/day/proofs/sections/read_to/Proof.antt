@@ -1,3 +1,5 @@
+-- `read_to` puts the number of entries beside the place behind them.
+-- Assumes nothing.
 use borrow.Author.Needs.{needs}
 use Rattle.day.proofs.sections.read_to.Statement.{statement}
 use Rattle.day.proofs.sections.read_to.Tie as tie

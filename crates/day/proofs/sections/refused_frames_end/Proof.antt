@@ -1,3 +1,5 @@
+-- `refused_frames_end` goes from refused frame to refused frame.
+-- Assumes nothing.
 use mathlib.Core.Path.{_≡_, sym, _∙_}
 use mathlib.Core.List.{[]}
 use Prim.Native.Nat.{_-_, _≤_}

@@ -1,3 +1,5 @@
+-- `refused_part` reads the count, then so many refused frames.
+-- Assumes nothing.
 use mathlib.Core.Path.{sym, _∙_}
 use Rattle.day.proofs.DayLaws.{refusedFrame-lawful}
 use Rattle.day.proofs.CheckLaws.{part-stop, part-whole, counted-came, counted-stop}

@@ -1,7 +1,6 @@
 -- `in_frames` reads a frame, or the count of refused frames.
 -- Assumes nothing.
 use mathlib.Core.Path.{sym, _∙_}
-use native.Mathlib.Omega.{arith}
 use Rattle.day.proofs.StepLaws.{behind-frames, no-refused-count, frame-here, no-frame}
 use borrow.Author.Needs.{needs}
 use Rattle.day.proofs.walking.in_frames.Statement.{statement}
