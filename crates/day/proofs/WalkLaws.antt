@@ -10,11 +10,10 @@ use lib.ListN.{length, take, drop, length-append, length-drop}
 use lib.Seq.{take-at}
 use Rattle.day.specs.Script.{Script, Walked, came, stop, walk, putEach}
 use Rattle.day.specs.Day.{Setting, Frame, Kind, frame, anyByte, lowFirst}
-use Rattle.day.specs.Stages.{frameSeen, settingsBefore}
+use Rattle.day.specs.Stages.{settingsBefore}
 use Rattle.day.specs.Walk.{Found, aSetting, aFrame, aRefused, theEnd, inRefused, inFrames, inSettings, atStart, entryOf, from, shown}
 use Rattle.day.specs.declared.Place.{Place}
 use Rattle.day.specs.declared.Entry.the-variants.{Frame as FrameHere, End, Stop as Stopped}
-use Rattle.day.specs.declared.entries.FrameAt.the-variants.{Is}
 use Rattle.day.proofs.ScriptLaws.{Stands, stands-split, bind-only, done-only}
 use Rattle.day.proofs.DayLaws.{frame-lawful}
 
@@ -25,18 +24,6 @@ stands-within l bytes at next h p = omega (arith, p .long, simp (length-append, 
 frame-long : (n : ℕ) (f : Frame) → 0 < length (frame n .put f)
 unfolding frame
 frame-long n f = omega arith
-
-pub frame-lies : (bytes : List ℕ) (n at a b c d start end : ℕ) → frameSeen (walk (frame n .read []) bytes at) ≡ Is a b c d start end → (start ≤ end) × (end ≤ length bytes)
-unfolding frameSeen
-frame-lies bytes n at a b c d start end e = go (walk (frame n .read []) bytes at) refl e
-  where
-    go : (w : Walked Frame) → walk (frame n .read []) bytes at ≡ w → frameSeen w ≡ Is a b c d start end → (start ≤ end) × (end ≤ length bytes)
-    go (came f next) p q =
-        let s : next - length (f .payload) ≡ start = cc in
-        let t : next ≡ end = cc in
-        let within : next ≤ length bytes = stands-within (frame n .put f) bytes at next (frame-long n f) (frame-lawful n [] .only bytes at f next p .1) in
-        (omega arith, omega arith)
-    go (stop x y) p q = absurd (let z : _≡_ {A = ℕ} 0 1 = cc in omega arith)
 
 put-bytes : (l : List ℕ) → putEach (anyByte .put) l ≡ l
 unfolding putEach anyByte
