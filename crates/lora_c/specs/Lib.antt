@@ -1,1 +1,2 @@
+pub mod DayExport
 pub mod Export

@@ -10,6 +10,9 @@ ghost use Rattle.lora.specs.Count.{countOf};
 ghost use Rattle.lora.specs.Head.{headOf};
 ghost use Rattle.lora.specs.Read.{readOf};
 ghost use Rattle.lora_c.specs.Export.{flagOf, settingsOf, front, CountExported, TimeExported, HeadExported, CodeExported, ReadExported};
+
+mod day_file;
+
 use lora::Counted;
 use lora::Heading;
 use lora::Lasting;
