@@ -1,18 +1,48 @@
-// The day's file for C and Rust.
+// The day's file for C and Rust. Numbers returned and cells are as those of the five operations.
 ghost use mathlib.Core.Path.{_≡_};
 ghost use Prim.Native.Nat.{_≤_};
 ghost use lib.ListN.{length};
-ghost use Rattle.day.specs.Day.{kind1, judged};
+ghost use Rattle.day.specs.Day.{kind1, fileOf, judged};
 ghost use Rattle.day.specs.Stages.{verdict};
 ghost use Rattle.day.specs.Walk.{shown};
+ghost use Rattle.day_write.specs.Write.{entriesOf, writeOf};
 ghost use Rattle.day.specs.declared.Entry.the-variants.{Setting, Frame, Refused};
 ghost use Rattle.lora_c.specs.Export.{front};
-ghost use Rattle.lora_c.specs.DayExport.{cellsOfEntry, CheckExported, StepExported};
+ghost use Rattle.lora_c.specs.DayExport.{cellsOfEntry, WriteExported, CheckExported, StepExported};
 use crate::ANSWER_SHORT;
 use crate::put;
 use day::Entry;
 use day::Place;
 use day::Verdict;
+use day_write::Written;
+
+// Writes the file of a day's entries into the lent bytes. answer[0] on acceptance: the file's length.
+#[no_mangle]
+pub extern "C" fn lora_day_write(
+    settings: &[u8],
+    frames: &[u16],
+    payloads: &[u8],
+    refused: &[u16],
+    out: &mut [u8],
+    answer: &mut [u64],
+) -> u8
+    ensures { λ r. ⌜ WriteExported (writeOf kind1 (now (settings .entry)) (now (frames .entry)) (now (payloads .entry)) (now (refused .entry)) (length (now (out .entry)))) (fileOf kind1 (entriesOf (now (settings .entry)) (now (frames .entry)) (now (payloads .entry)) (now (refused .entry)))) (now (out .entry)) (now (out .exit)) (now (answer .entry)) (now (answer .exit)) r ⌝ }
+{
+    if answer.len() < 1 {
+        return ANSWER_SHORT;
+    }
+    let written = day_write::write(settings, frames, payloads, refused, out);
+    match written {
+        Written::Refused { number, place } => {
+            put(answer, &[place as u64]);
+            number
+        }
+        Written::Length { bytes } => {
+            put(answer, &[bytes as u64]);
+            0
+        }
+    }
+}
 
 // Checks a day's file. answer on acceptance: settings, frames, refused frames.
 #[no_mangle]

@@ -9,7 +9,11 @@ use Rattle.lora.specs.declared.Counted.{Counted}
 use Rattle.lora.specs.declared.Lasting.{Lasting}
 use Rattle.lora.specs.declared.Heading.{Heading}
 use Rattle.lora.specs.declared.Received.{Received}
+use Rattle.day.specs.declared.Verdict.{Verdict}
+use Rattle.day.specs.declared.Entry.{Entry}
+use Rattle.day_write.specs.declared.Written.{Written}
 use Rattle.lora_c.specs.Export.{Exported, Lent, CountExported, TimeExported, HeadExported, CodeExported, ReadExported}
+use Rattle.lora_c.specs.DayExport.{WriteExported, CheckExported, StepExported}
 
 -- two outcomes of one call
 pub record Same (r r′ : ℕ) (new new′ : List ℕ) : Type 0 where
@@ -38,3 +42,13 @@ code-exported p q = (exported (p .is) (q .is), lent (p .symbols) (q .symbols))
 pub read-exported : {a : Received} {sf : ℕ} {low : Bool} {symbols kept out out′ old new new′ : List ℕ} {r r′ : ℕ}
     → ReadExported a sf low symbols kept out old new r → ReadExported a sf low symbols kept out′ old new′ r′ → Same r r′ new new′ × (out ≡ out′)
 read-exported p q = (exported (p .is) (q .is), lent (p .bytes) (q .bytes))
+
+pub day-write-exported : {a : Written} {file kept out out′ old new new′ : List ℕ} {r r′ : ℕ}
+    → WriteExported a file kept out old new r → WriteExported a file kept out′ old new′ r′ → Same r r′ new new′ × (out ≡ out′)
+day-write-exported p q = (exported (p .is) (q .is), lent (p .bytes) (q .bytes))
+
+pub day-check-exported : {a : Verdict} {old new new′ : List ℕ} {r r′ : ℕ} → CheckExported a old new r → CheckExported a old new′ r′ → Same r r′ new new′
+day-check-exported p q = exported (p .is) (q .is)
+
+pub day-step-exported : {a : Entry} {old new new′ : List ℕ} {r r′ : ℕ} → StepExported a old new r → StepExported a old new′ r′ → Same r r′ new new′
+day-step-exported p q = exported (p .is) (q .is)
