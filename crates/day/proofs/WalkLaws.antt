@@ -1,20 +1,21 @@
 -- Where a payload lies that was read, or that a walker shows.
 -- Assumes nothing.
 use mathlib.Core.Path.{_≡_, refl, ap}
-use mathlib.Core.Bool.{Bool, true, false, cond}
+use mathlib.Core.Bool.{Bool, true, false, _&&_, cond}
 use mathlib.Core.List.{List, [], _∷_, _++_}
 use Prim.Native.Nat.{ℕ, zero, suc, _+_, _-_, _<_, _≤_}
 use native.Mathlib.Omega.{arith}
-use lib.Dec.{eqb}
+use borrow.Author.Tests.{ltb-true}
+use lib.Dec.{leb, ltb, eqb}
 use lib.ListN.{length, take, drop, length-append, length-drop}
 use lib.Seq.{take-at}
-use Rattle.day.specs.Script.{Script, Walked, came, stop, walk, putEach}
-use Rattle.day.specs.Day.{Setting, Frame, Kind, frame, anyByte, lowFirst}
+use Rattle.day.specs.Script.{Script, Walked, came, stop, walk, putEach, goodEach}
+use Rattle.day.specs.Day.{Setting, Frame, Kind, within, isByte, isFlag, isCr, frame, anyByte, lowFirst}
 use Rattle.day.specs.Stages.{settingsBefore}
-use Rattle.day.specs.Walk.{Found, aSetting, aFrame, aRefused, theEnd, inRefused, inFrames, inSettings, atStart, entryOf, from, shown}
+use Rattle.day.specs.Walk.{Found, aSetting, aFrame, aRefused, theEnd, inRefused, inFrames, inSettings, atStart, entryOf, from, shown, payloadOf}
 use Rattle.day.specs.declared.Place.{Place}
 use Rattle.day.specs.declared.Entry.the-variants.{Frame as FrameHere, End, Stop as Stopped}
-use Rattle.day.proofs.ScriptLaws.{Stands, stands-split, bind-only, done-only}
+use Rattle.day.proofs.ScriptLaws.{both-true, Stands, stands-split, bind-only, done-only}
 use Rattle.day.proofs.DayLaws.{frame-lawful}
 
 -- what stands in a file ends within it
@@ -108,3 +109,35 @@ shown-lies k bytes p q a b c d start e = go (walk (from k bytes p) bytes (p .at)
     go (came (aRefused x l n) next) w r = absurd (let z : _≡_ {A = ℕ} 0 1 = cc in omega arith)
     go (came theEnd next) w r = ends next (eqb next (length bytes)) r
     go (stop x y) w r = absurd (let z : _≡_ {A = ℕ} 0 1 = cc in omega arith)
+
+fifth : (a b c d e z : Bool) → a && (b && (c && (d && (e && z)))) ≡ true → e ≡ true
+fifth a b c d e z h =
+    let h1 = both-true a (b && (c && (d && (e && z)))) h .1 in
+    let h2 = both-true b (c && (d && (e && z))) h1 .1 in
+    let h3 = both-true c (d && (e && z)) h2 .1 in
+    both-true e z (both-true d (e && z) h3 .1) .0
+
+frame-short : (n : ℕ) (f : Frame) → frame n .good [] f ≡ true → length (f .payload) ≤ 255
+unfolding frame
+frame-short n f g =
+    let long = length (f .payload) in
+    let byte = fifth (within 0 n (f .setting)) (isCr (f .cr)) (isFlag (f .flag)) (leb (f .repairs) 65535) (isByte long) (goodEach (anyByte .good) [] (f .payload)) g in
+    omega (arith, ltb-true long 256 (both-true (leb 0 long) (ltb long 256) byte .1))
+
+-- It has at most 255 bytes.
+pub shown-short : (k : Kind) (bytes : List ℕ) (p : Place) → length (payloadOf (shown k bytes p) bytes) ≤ 255
+unfolding shown
+shown-short k bytes p = go (walk (from k bytes p) bytes (p .at)) refl
+  where
+    ends : (at : ℕ) (t : Bool) → length (payloadOf (cond t End (Stopped 15 at)) bytes) ≤ 255
+    ends at true = omega arith
+    ends at false = omega arith
+
+    go : (w : Walked Found) → walk (from k bytes p) bytes (p .at) ≡ w → length (payloadOf (entryOf bytes w) bytes) ≤ 255
+    go (came (aSetting s l n) next) w = omega arith
+    go (came (aFrame f l n) next) w =
+        let (at, v) = anywhere bytes f l n next k p (p .at) w in
+        rw (frame-part bytes n at f next v) (frame-short n f (frame-lawful n [] .only bytes at f next v .0))
+    go (came (aRefused x l n) next) w = omega arith
+    go (came theEnd next) w = ends next (eqb next (length bytes))
+    go (stop x y) w = omega arith

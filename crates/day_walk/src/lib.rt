@@ -80,7 +80,7 @@ pub fn payload<'a>(d: Day<'a>) -> &'a [u8]
 }
 
 // The place behind what stands at a place; the end and a refusal are not passed.
-fn place_behind(bytes: &[u8], place: Place) -> Place
+pub fn place_behind(bytes: &[u8], place: Place) -> Place
     ensures { λ r. ⌜ r ≡ behind (shown kind1 (now (bytes .entry)) place) place ⌝ }
 {
     match day::entry_at(bytes, place) {

@@ -53,20 +53,11 @@ fn answer_part(
     }
 }
 
-// So many answers and so many more, up to the largest number there is.
-fn together(answers: usize, more: usize) -> usize {
-    if more <= usize::MAX - answers {
-        answers + more
-    } else {
-        usize::MAX
-    }
-}
-
 // How many whole answers were written where the system stopped within those of a part.
 fn whole(before: usize, out: &[u8], sent: Sent) -> usize
     requires { ⌜ sent .bytes ≤ length (now out) ⌝ }
 {
-    together(before, lines::line_ends(out, sent.bytes))
+    lines::together(before, lines::line_ends(out, sent.bytes))
 }
 
 // Takes a chunk whole, part by part, unless a write fails.

@@ -111,7 +111,7 @@ fn put_shown(out: &mut [u8], at: usize, payload: &[u8]) -> usize
 }
 
 // The last field, and the line's end.
-fn put_payload(out: &mut [u8], at: usize, payload: &[u8]) -> usize
+pub fn put_payload(out: &mut [u8], at: usize, payload: &[u8]) -> usize
     requires { ⌜ at + (2 * length (now payload) + 3) ≤ length (now out) ⌝ }
     ensures { λ r. ⌜ Put at ((32 ∷ shown (now (payload .entry))) ++ (10 ∷ [])) (now (out .entry)) (now (out .exit)) r ⌝ }
 {

@@ -305,3 +305,12 @@ pub fn line_ends(out: &[u8], n: usize) -> usize
     }
     ends
 }
+
+// So many answers and so many more, up to the largest number there is.
+pub fn together(answers: usize, more: usize) -> usize {
+    if more <= usize::MAX - answers {
+        answers + more
+    } else {
+        usize::MAX
+    }
+}
