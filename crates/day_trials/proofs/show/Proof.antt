@@ -11,8 +11,11 @@ slice-aggregate-show c = search (needs, length-take-le)
 show-requires : tie.Need-show-requires
 show-requires c κs = search needs
 
-say-unwritten-requires : tie.Need-say-unwritten-requires
-say-unwritten-requires c κs = search needs
+slice-aggregate-say : tie.Need-slice-aggregate-say
+slice-aggregate-say c = search needs
+
+say-requires : tie.Need-say-requires
+say-requires c κs = search needs
 
 same-length : tie.Need-same-length
 same-length c = search needs
@@ -32,7 +35,8 @@ show-spec =
     (tie.spec
     slice-aggregate-show
     show-requires
-    say-unwritten-requires
+    slice-aggregate-say
+    say-requires
     same-length
     returns
     same-length-2
