@@ -1,4 +1,5 @@
 pub mod File
+pub mod Listing
 pub mod Long
 pub mod Steps
 pub mod Walk

@@ -5,6 +5,7 @@ use mathlib.Core.List.{List, [], _∷_, _++_, map, append-assoc, append-nil}
 use Prim.Native.Nat.{ℕ, zero, suc, _+_, _-_, _*_}
 use native.Mathlib.Numerals.{add-one}
 use borrow.Author.Tests.{eq-eqb}
+use native.Mathlib.Omega.{arith}
 use lib.ListN.{length}
 use Rattle.bits.specs.Tab.{tab}
 use Rattle.day.specs.Script.{many, came, walk}
@@ -20,7 +21,7 @@ use Rattle.day.proofs.EntryLaws.{refused-same}
 use Rattle.day.proofs.SectionLaws.{frame-same}
 use Rattle.day.proofs.SettingLaws.{stood, earlier, put-setting}
 use Rattle.day.proofs.WalkLaws.{frame-part}
-use Rattle.day_promises.specs.Told.{Told, aSetting, aFrame, aRefused, told}
+use Rattle.day_promises.specs.Told.{Told, aFrame, aRefused, told, numbered}
 
 -- the place behind an entry; of the end and of a refusal any
 abbrev pub nextOf : Entry → Place
@@ -68,20 +69,20 @@ module _ (k : Kind) (bytes : List ℕ) where
   abbrev pub SettingsTold : ℕ → ℕ → ℕ → List Setting → List Told → Type 0
   SettingsTold settings n j all more =
       (l : List Setting) × (all ≡ tab j (pairAt 2 bytes) ++ l)
-      × Tells (entryOf bytes (walk (inSettings k (settingsBefore bytes (2 + 2 * j)) settings n) bytes (2 + 2 * j))) (map aSetting l ++ more)
+      × Tells (entryOf bytes (walk (inSettings k (settingsBefore bytes (2 + 2 * j)) settings n) bytes (2 + 2 * j))) (numbered j l ++ more)
 
-  pub tells-settings : (n settings j : ℕ) (all : List Setting) (next : ℕ) (more : List Told)
+  pub tells-settings : (n settings j : ℕ) (all : List Setting) (next : ℕ) (more : List Told) → j + n ≡ settings
       → walk (many (setting .read) n (tab j (pairAt 2 bytes))) bytes (2 + 2 * j) ≡ came all next
       → Tells (entryOf bytes (walk (inSettings k (settingsBefore bytes next) settings 0) bytes next)) more
       → SettingsTold settings n j all more
-  unfolding many inSettings Tells shown tab
-  tells-settings zero settings j all next more e later =
+  unfolding many inSettings Tells shown tab numbered
+  tells-settings zero settings j all next more sum e later =
       let (p, q) = done-only _ all bytes (2 + 2 * j) next e in
       ([], p ∙ sym (append-nil _), rw q at later)
-  tells-settings (suc n) settings j all next more e later =
+  tells-settings (suc n) settings j all next more sum e later =
       bind-only (setting .read (tab j (pairAt 2 bytes))) _ bytes (2 + 2 * j) all next e λ s mid p q.
       let (is-s, is-mid) = stood bytes j mid s (rw put-setting at (setting-lawful (tab j (pairAt 2 bytes)) .only bytes (2 + 2 * j) s mid p .1)) in
-      go s mid is-s (is-mid ∙ rw (add-one j)) p q (λ r. tells-settings n settings (suc j) all next more r later)
+      go s mid is-s (is-mid ∙ rw (add-one j)) p q (λ r. tells-settings n settings (suc j) all next more (omega arith) r later)
     where
       go : (s : Setting) (mid : ℕ) → s ≡ pairAt 2 bytes j → mid ≡ 2 + 2 * suc j → walk (setting .read (tab j (pairAt 2 bytes))) bytes (2 + 2 * j) ≡ came s mid
           → walk (many (setting .read) n (tab j (pairAt 2 bytes) ++ (s ∷ []))) bytes mid ≡ came all next
@@ -94,4 +95,5 @@ module _ (k : Kind) (bytes : List ℕ) where
               → SettingsTold settings (suc n) j all more
           shut (l, is, tells) =
               let w : walk (setting .read (settingsBefore bytes (2 + 2 * j))) bytes (2 + 2 * j) ≡ came s mid = rw (earlier bytes j) p in
-              (s ∷ l, is ∙ rw (← is-s) (append-assoc (tab j (pairAt 2 bytes)) (s ∷ []) l), rw (bind-on _ _ bytes (2 + 2 * j) w (done-back _ bytes mid)) (refl, rw z tells))
+              let index : settings - 1 - n ≡ j = omega arith in
+              (s ∷ l, is ∙ rw (← is-s) (append-assoc (tab j (pairAt 2 bytes)) (s ∷ []) l), rw (bind-on _ _ bytes (2 + 2 * j) w (done-back _ bytes mid), index) (refl, rw z tells))

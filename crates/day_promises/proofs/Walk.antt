@@ -3,7 +3,7 @@
 use mathlib.Core.Path.{_≡_, refl, sym, ap, _∙_}
 use mathlib.Core.Bool.{Bool, true, false}
 use mathlib.Core.List.{List, [], _∷_, _++_, map}
-use Prim.Native.Nat.{ℕ, _+_}
+use Prim.Native.Nat.{ℕ, suc}
 use native.Mathlib.Omega.{arith}
 use borrow.Author.Tests.{eqb-true}
 use lib.Dec.{eqb}
@@ -19,7 +19,7 @@ use Rattle.day.specs.declared.Entry.{Entry}
 use Rattle.day.specs.declared.Entry.the-variants.{Setting as SettingHere, Frame as FrameHere, Refused as RefusedHere, End, Stop}
 use Rattle.day.proofs.ScriptLaws.{bind-on, bind-only, done-only, one-only, many-only}
 use Rattle.day.proofs.DayLaws.{setting-lawful, count-spells}
-use Rattle.day_promises.specs.Told.{Told, aSetting, aFrame, aRefused, told, toldIn, placeAfter, entriesIn, howMany}
+use Rattle.day_promises.specs.Told.{Told, aFrame, aRefused, told, numbered, toldIn, placeAfter, entriesIn, howMany}
 use Rattle.day_promises.proofs.Steps.{nextOf, Tells, SettingsTold, tells-refused, tells-frames, tells-settings}
 
 module _ (k : Kind) (bytes : List ℕ) where
@@ -50,15 +50,15 @@ module _ (k : Kind) (bytes : List ℕ) where
 
   settings-part : (all : List Setting) (next : ℕ) (more : List Told) → walk (section setting false 255) bytes 1 ≡ came all next
       → Tells k bytes (entryOf bytes (walk (inSettings k (settingsBefore bytes next) (length all) 0) bytes next)) more
-      → Tells k bytes (entryOf bytes (walk fromSettings bytes 1)) (map aSetting all ++ more)
+      → Tells k bytes (entryOf bytes (walk fromSettings bytes 1)) (numbered 0 all ++ more)
   unfolding section putCount tab
   settings-part all next more e later = bind-only _ _ bytes 1 all next e λ n mid p q.
       many-only setting setting-lawful n [] bytes mid all next q λ l is long goods stands.
       let two : mid ≡ 2 = count-spells false 255 (omega arith) .only bytes 1 n mid p .1 .long in
       let many : length all ≡ n = ap length is ∙ long in
-      shut n mid p two (tells-settings k bytes n n 0 all next more (rw two at q) (rw many at later))
+      shut n mid p two (tells-settings k bytes n n 0 all next more (omega arith) (rw two at q) (rw many at later))
     where
-      shut : (n mid : ℕ) → walk (count false 255) bytes 1 ≡ came n mid → mid ≡ 2 → SettingsTold k bytes n n 0 all more → Tells k bytes (entryOf bytes (walk fromSettings bytes 1)) (map aSetting all ++ more)
+      shut : (n mid : ℕ) → walk (count false 255) bytes 1 ≡ came n mid → mid ≡ 2 → SettingsTold k bytes n n 0 all more → Tells k bytes (entryOf bytes (walk fromSettings bytes 1)) (numbered 0 all ++ more)
       shut n mid p two (l, is, tells) = rw (bind-on _ _ bytes 1 p refl, two, is) tells
 
   -- from the file's start
@@ -92,9 +92,14 @@ module _ (k : Kind) (bytes : List ℕ) where
       let (told-more, ends) = steps more (behind (shown k bytes p) p) (rw next later) in
       (rw (here, told-more), ends)
 
+  so-many : (j : ℕ) (l : List Setting) → length (numbered j l) ≡ length l
+  unfolding numbered
+  so-many j [] = refl
+  so-many j (s ∷ l) = ap suc (so-many (suc j) l)
+
   how-many : (e : Day) → length (entriesIn e) ≡ howMany e
   unfolding entriesIn
-  how-many e = simp (length-append, length-map) refl
+  how-many e = simp (length-append, length-map, so-many) refl
 
   -- Of a file that is taken the walker shows all entries, in their order, each payload being the cells of the file at that place;
   -- and then the end.
