@@ -6,7 +6,7 @@ use mathlib.Core.List.{List, [], _∷_, _++_, append-assoc, append-nil}
 use Prim.Native.Nat.{ℕ, zero, suc, _+_, _-_, _*_, _<_, _≤_}
 use native.Mathlib.Numerals.{add-one}
 use native.Mathlib.Omega.{arith}
-use borrow.Author.Tests.{lt-ltb, le-ltb, le-leb, lt-leb, ltb-true, ltb-false}
+use borrow.Author.Tests.{lt-ltb, le-leb, lt-leb, ltb-true, ltb-false}
 use lib.Dec.{ltb, leb}
 use lib.ListN.{length, getD, take, drop, length-drop}
 use lib.Seq.{drop-cons, length-take-le}
@@ -18,20 +18,8 @@ use Rattle.day.specs.declared.entries.FrameAt.{FrameAt}
 use Rattle.day.specs.declared.entries.FrameAt.the-variants.{Is, Stop}
 use Rattle.day.proofs.ScriptLaws.{both-true, true-both, bind-on, bind-stop, done-back, one-on, one-missing}
 
--- the three answers of `fault`
+-- what a fault, or none, says of the walk
 module _ (ok : ℕ → Bool) (bytes : List ℕ) (at : ℕ) where
-  pub fault-missing : length bytes ≤ at → 15 ≡ faultOf ok bytes at
-  unfolding faultOf
-  fault-missing h = rw (le-ltb at (length bytes) h)
-
-  pub fault-outside : at < length bytes → ok (getD bytes at 0) ≡ false → 16 ≡ faultOf ok bytes at
-  unfolding faultOf
-  fault-outside h e = rw (lt-ltb at (length bytes) h, e)
-
-  pub fault-none : at < length bytes → ok (getD bytes at 0) ≡ true → 0 ≡ faultOf ok bytes at
-  unfolding faultOf
-  fault-none h e = rw (lt-ltb at (length bytes) h, e)
-
   -- a byte without fault is there, and in its range
   pub fault-there : faultOf ok bytes at ≡ 0 → (at < length bytes) × (ok (getD bytes at 0) ≡ true)
   unfolding faultOf

@@ -19,8 +19,11 @@ use Rattle.day.specs.declared.Verdict.{Verdict}
 use Rattle.day.specs.declared.Verdict.the-variants.{Taken, Refused}
 
 -- the byte at a place: missing, outside its range, or neither
+abbrev pub faultBy : Bool → List ℕ → ℕ → ℕ
+faultBy fine bytes at = check (ltb at (length bytes)) 15 (check fine 16 0)
+
 unfoldable pub faultOf : (ℕ → Bool) → List ℕ → ℕ → ℕ
-faultOf ok bytes at = check (ltb at (length bytes)) 15 (check (ok (getD bytes at 0)) 16 0)
+faultOf ok bytes at = faultBy (ok (getD bytes at 0)) bytes at
 
 -- a frame by its fields and the place of its payload
 unfoldable pub frameSeen : Walked Frame → FrameAt

@@ -3,7 +3,7 @@ ghost use mathlib.Core.Path.{_≡_};
 ghost use Prim.Native.Nat.{_+_, _*_};
 ghost use lib.ListN.{getD};
 ghost use Rattle.day.specs.Day.{within as isWithin, isNumber};
-ghost use Rattle.day.specs.Stages.{faultOf};
+ghost use Rattle.day.specs.Stages.{faultBy, faultOf};
 use bits::wide;
 
 // The byte at any place, 0 behind the end.
@@ -20,24 +20,35 @@ pub fn within(n: usize, low: usize, end: usize) -> bool
     if low <= n { n < end } else { false }
 }
 
-// Whether the byte at a place is there and in its range: 0, or else 15 or 16.
-pub fn fault(bytes: &[u8], at: usize, low: usize, end: usize) -> u8
-    ensures { λ r. ⌜ r ≡ faultOf (isWithin low end) (now (bytes .entry)) at ⌝ }
+// Whether frames are refused with this number.
+pub fn is_number(n: usize) -> bool
+    ensures { λ r. ⌜ r ≡ isNumber n ⌝ }
+{
+    within(n, 4, 13)
+}
+
+// Whether the byte at a place is there and is fine: 0, or else 15 or 16.
+fn fault_by(bytes: &[u8], at: usize, fine: bool) -> u8
+    ensures { λ r. ⌜ r ≡ faultBy fine (now (bytes .entry)) at ⌝ }
 {
     if bytes.len() <= at {
         return refusal::FILE_LENGTH;
     }
-    if !within(wide(bytes[at]), low, end) {
-        return refusal::FILE_FIELD;
-    }
-    0
+    if fine { 0 } else { refusal::FILE_FIELD }
 }
 
-// The same for the number with which a frame was refused.
+// The same by its range.
+pub fn fault(bytes: &[u8], at: usize, low: usize, end: usize) -> u8
+    ensures { λ r. ⌜ r ≡ faultOf (isWithin low end) (now (bytes .entry)) at ⌝ }
+{
+    fault_by(bytes, at, within(wide(byte_at(bytes, at)), low, end))
+}
+
+// The same of a refused frame's number.
 pub fn number_fault(bytes: &[u8], at: usize) -> u8
     ensures { λ r. ⌜ r ≡ faultOf isNumber (now (bytes .entry)) at ⌝ }
 {
-    fault(bytes, at, 4, 13)
+    fault_by(bytes, at, is_number(wide(byte_at(bytes, at))))
 }
 
 // Two bytes low first.

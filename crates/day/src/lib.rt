@@ -10,6 +10,7 @@ mod walking;
 
 pub use entries::is_given;
 use fields::fault;
+pub use fields::is_number;
 pub use fields::within;
 use sections::Part;
 pub use walking::entry_at;

@@ -110,7 +110,7 @@ fn frames_good(frames: &[u16], settings: usize) -> bool
 fn is_number(n: u16) -> bool
     ensures { λ r. ⌜ r ≡ isNumber n ⌝ }
 {
-    within(wide16(n), 4, 13)
+    day::is_number(wide16(n))
 }
 
 fn refused_frame_good(refused: &[u16], settings: usize, i: usize) -> bool

@@ -1,17 +1,13 @@
--- `fault` looks whether the byte is there, then at its range.
+-- `fault` tests the byte by its range.
 -- Assumes nothing.
-use mathlib.Core.Path.{sym, _∙_}
-use borrow.Author.Tests.{not-true, not-false}
-use Rattle.day.proofs.ReaderLaws.{fault-missing, fault-outside, fault-none}
+use mathlib.Core.Path.{_∙_}
+use Rattle.day.specs.Stages.{faultOf}
 use borrow.Author.Needs.{needs}
 use Rattle.day.proofs.fields.fault.Statement.{statement}
 use Rattle.day.proofs.fields.fault.Tie as tie
 
-returns : tie.Need-returns
-returns c = fault-missing _ _ _ (c .if1 .taken)
-
-shared-slice-read-wide : tie.Need-shared-slice-read-wide
-shared-slice-read-wide c = search needs
+byte-at-requires : tie.Need-byte-at-requires
+byte-at-requires c κs = search needs
 
 wide-requires : tie.Need-wide-requires
 wide-requires c κs = search needs
@@ -19,11 +15,14 @@ wide-requires c κs = search needs
 within-requires : tie.Need-within-requires
 within-requires c κs = search needs
 
-returns-2 : tie.Need-returns-2
-returns-2 c = fault-outside _ _ _ (search needs) (rw (c .before .before .wide .ensures) at (sym (c .before .within .ensures) ∙ not-true _ (c .if2 .taken)))
+fault-by-requires : tie.Need-fault-by-requires
+fault-by-requires c κs = search needs
 
-returns-3 : tie.Need-returns-3
-returns-3 c = fault-none _ _ _ (search needs) (rw (c .before .before .wide .ensures) at (sym (c .before .within .ensures) ∙ not-false _ (c .if2 .left)))
+returns : tie.Need-returns
+unfolding faultOf
+returns c =
+    let fine = rw (c .before .before .wide .ensures, c .before .before .before .byte-at .ensures) at (c .before .within .ensures) in
+    c .fault-by .ensures ∙ rw fine
 
 pub fault-spec : {M : Type 1} → statement M
-fault-spec = tie.close (tie.spec returns shared-slice-read-wide wide-requires within-requires returns-2 returns-3)
+fault-spec = tie.close (tie.spec byte-at-requires wide-requires within-requires fault-by-requires returns)
