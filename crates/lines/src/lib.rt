@@ -116,7 +116,7 @@ fn answer_behind(piece: Piece, numbers: &mut [u16], out: &mut [u8], used: usize)
 }
 
 // One more, up to the largest number there is.
-fn one_more(n: usize) -> usize
+pub fn one_more(n: usize) -> usize
     ensures { λ r. ⌜ r ≡ more n ⌝ }
 {
     if n < usize::MAX { n + 1 } else { n }
@@ -174,7 +174,7 @@ fn close_piece(progress: Progress, numbers: &mut [u16], out: &mut [u8], used: us
 }
 
 // The place of the next line end, or the chunk's length.
-fn line_end(chunk: &[u8], from: usize) -> usize
+pub fn line_end(chunk: &[u8], from: usize) -> usize
     requires { ⌜ from ≤ length (now chunk) ⌝ }
     ensures { λ r. ⌜ Ends (now (chunk .entry)) from r ⌝ }
 {

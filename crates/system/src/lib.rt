@@ -1,15 +1,16 @@
-// The system's calls that the programs share: reads and writes, the wait between two tries, the arguments.
+// The system's calls that the programs share: reads and writes, the wait between two tries, files by name, the arguments.
 // What a call reads or writes no contract can say; what is counted and handed on, these contracts do.
 ghost use Prim.Native.Nat.{_≤_};
 ghost use lib.ListN.{length};
-ghost use Rattle.system.specs.Calls.{Within, Handed};
+ghost use Rattle.system.specs.Calls.{Within, Handed, Named};
 use libc::EAGAIN;
 use libc::EINTR;
 use libc::STDERR_FILENO;
 use libc::STDIN_FILENO;
 
-// What a read of standard input gave: so many bytes at the buffer's front, the input's end, or a failure with the system's
-// number for it.
+pub mod files;
+
+// What a read gave: so many bytes at the buffer's front, the input's end, or a failure with the system's number for it.
 pub enum Got {
     Bytes(usize),
     End,
@@ -26,6 +27,14 @@ pub struct Sent {
 // What the program was asked by its arguments: none, --help alone, or something else.
 pub enum Asked {
     Work,
+    Help,
+    Other,
+}
+
+// The same of a program that also takes a file's name alone: so many bytes of it stand at the front of a lent buffer.
+pub enum Request {
+    Plain,
+    Name(usize),
     Help,
     Other,
 }
@@ -61,13 +70,13 @@ fn again(number: usize) -> bool {
 
 // Reads what is there, and waits until there is something. A proved loop has to end, so it counts its tries down from a
 // number that no run uses up.
-pub fn read_some(buffer: &mut [u8]) -> Got
+fn read_from(fd: i32, buffer: &mut [u8]) -> Got
     ensures { λ r. ⌜ Within r (now (buffer .exit)) ⌝ }
 {
     let mut tries = u64::MAX;
     while tries > 0 {
         tries -= 1;
-        let got = libc::read(STDIN_FILENO, buffer);
+        let got = libc::read(fd, buffer);
         if got > 0 {
             return Got::Bytes(io::count(got, buffer));
         }
@@ -81,6 +90,13 @@ pub fn read_some(buffer: &mut [u8]) -> Got
         pause();
     }
     Got::Failed(0)
+}
+
+// The same of standard input.
+pub fn read_some(buffer: &mut [u8]) -> Got
+    ensures { λ r. ⌜ Within r (now (buffer .exit)) ⌝ }
+{
+    read_from(STDIN_FILENO, buffer)
 }
 
 // How far a write has come: the bytes it got rid of, whether it is over, and the system's number for what went wrong.
@@ -205,25 +221,46 @@ pub fn say_unwritten(error: usize, answers: usize) {
     write_first(STDERR_FILENO, &line, n);
 }
 
-// The line for a read that failed, where one text is all the input.
-pub fn say_failed(error: usize) {
+// The line for what failed, where there is no more to tell of it than the system's number.
+pub fn say_failure(what: &[u8], error: usize) {
     let mut line = [0u8; 128];
-    let mut n = put(&mut line, 0, b"reading failed (error ");
+    let mut n = put(&mut line, 0, what);
+    n = put(&mut line, n, b" failed (error ");
     n = put_number(&mut line, n, error);
     n = put(&mut line, n, b")\n");
     write_first(STDERR_FILENO, &line, n);
 }
 
+// The line for a read that failed, where one text is all the input.
+pub fn say_failed(error: usize) {
+    say_failure(b"reading", error);
+}
+
+// The line for a read that failed, up to what came of the run.
+fn put_unread(line: &mut [u8], error: usize, answers: usize) -> usize
+    ensures { λ r. ⌜ r ≤ length (now (line .exit)) ⌝ }
+{
+    let mut n = put(line, 0, b"broken off: reading failed in line ");
+    n = put_number(line, n, next(answers));
+    n = put(line, n, b" (error ");
+    n = put_number(line, n, error);
+    put(line, n, b"), ")
+}
+
 // The line for a read that failed: the line that it cut short has no answer.
 pub fn say_unread(error: usize, answers: usize) {
     let mut line = [0u8; 128];
-    let mut n = put(&mut line, 0, b"broken off: reading failed in line ");
-    n = put_number(&mut line, n, next(answers));
-    n = put(&mut line, n, b" (error ");
-    n = put_number(&mut line, n, error);
-    n = put(&mut line, n, b"), ");
+    let mut n = put_unread(&mut line, error, answers);
     n = put_number(&mut line, n, answers);
     n = put(&mut line, n, b" whole answers written\n");
+    write_first(STDERR_FILENO, &line, n);
+}
+
+// The same where the answer to all lines is one file, and there is none.
+pub fn say_unkept(error: usize, lines: usize) {
+    let mut line = [0u8; 128];
+    let mut n = put_unread(&mut line, error, lines);
+    n = put(&mut line, n, b"no file kept\n");
     write_first(STDERR_FILENO, &line, n);
 }
 
@@ -248,15 +285,30 @@ fn is_help(word: &[u8]) -> bool {
         && word[5] == b'p'
 }
 
-pub fn arguments() -> Asked {
+// The one argument of a program that takes a name. An empty name is none, and one that is longer than the buffer can't be used.
+pub fn argument(word: &mut [u8]) -> Request
+    ensures { λ r. ⌜ Named r (now (word .exit)) ⌝ }
+{
     let count = os::arg_count();
     if count < 2 {
-        return Asked::Work;
+        return Request::Plain;
     }
+    let n = os::arg(1, word);
+    if count > 2 || n == 0 {
+        return Request::Other;
+    }
+    if is_help(&word[..n]) {
+        return Request::Help;
+    }
+    Request::Name(n)
+}
+
+pub fn arguments() -> Asked {
     let mut word = [0u8; 8];
-    let n = os::arg(1, &mut word);
-    if count == 2 && is_help(&word[..n]) {
-        return Asked::Help;
+    let request = argument(&mut word);
+    match request {
+        Request::Plain => Asked::Work,
+        Request::Help => Asked::Help,
+        Request::Name(_) | Request::Other => Asked::Other,
     }
-    Asked::Other
 }

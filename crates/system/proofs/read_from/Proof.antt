@@ -1,16 +1,16 @@
--- `read_some` answers no more bytes than the buffer has, and its tries run out.
+-- `read_from` answers no more bytes than the buffer has, and its tries run out.
 -- Assumes nothing.
 use mathlib.Core.Path.{_≡_}
 use lib.ListN.{length}
 use borrow.Author.Needs.{needs}
-use Rattle.system.proofs.read_some.Statement.{statement}
-use Rattle.system.proofs.read_some.Tie as tie
+use Rattle.system.proofs.read_from.Statement.{statement}
+use Rattle.system.proofs.read_from.Tie as tie
 
 abbrev Inv-loop : tie.InvT-loop
-Inv-loop buffer₀ tries₀ buffer tries = length buffer ≡ length buffer₀
+Inv-loop fd buffer₀ tries₀ buffer tries = length buffer ≡ length buffer₀
 
 abbrev μ-loop : tie.MeasureT-loop
-μ-loop buffer₀ tries₀ buffer tries = tries
+μ-loop fd buffer₀ tries₀ buffer tries = tries
 
 loop-holds : tie.Need-loop-holds Inv-loop μ-loop
 loop-holds c = search needs
@@ -63,8 +63,8 @@ same-length-4 c = search needs
 returns-4 : tie.Need-returns-4 Inv-loop μ-loop
 returns-4 c = search needs
 
-pub read-some-spec : {M : Type 1} → statement M
-read-some-spec =
+pub read-from-spec : {M : Type 1} → statement M
+read-from-spec =
     tie.close
     (tie.spec
     Inv-loop
