@@ -26,17 +26,19 @@ pub record Few (rows : Rows) : Type 0 where
   pub refused : rows .refused ≤ 256
 
 -- the lent lists
-pub record Lent (settings frames payloads refused : List ℕ) : Type 0 where
+pub record Lent (numbers settings frames payloads refused : List ℕ) : Type 0 where
+  pub texts : length numbers ≡ 834
   pub pairs : length settings ≡ 1024
   pub fives : length frames ≡ 1280
   pub bytes : length payloads ≡ 65535
   pub threes : length refused ≡ 768
 
 -- a run on its way
-pub record Going (progress : Progress) (numbers : List ℕ) : Type 0 where
+pub record Going (progress : Progress) (numbers settings frames payloads refused : List ℕ) : Type 0 where
   pub sane : Sane (progress .scan) numbers
   pub few : Few (progress .rows)
+  pub lent : Lent numbers settings frames payloads refused
 
--- at its beginning, whatever the 834 numbers are
+-- at its beginning, whatever the lent lists have
 pub record Begins (progress : Progress) : Type 0 where
-  pub going : (numbers : List ℕ) → length numbers ≡ 834 → Going progress numbers
+  pub going : (numbers settings frames payloads refused : List ℕ) → Lent numbers settings frames payloads refused → Going progress numbers settings frames payloads refused

@@ -3,7 +3,8 @@ ghost use mathlib.Core.Path.{_≡_};
 ghost use Prim.Native.Nat.{_+_, _≤_, _<_};
 ghost use lib.ListN.{length};
 ghost use Rattle.lines.specs.Stream.{Ends};
-ghost use Rattle.keep.specs.Rows.{Begins, Lent, Going};
+ghost use Rattle.text.specs.Scan.{Sane};
+ghost use Rattle.keep.specs.Rows.{Begins, Going};
 use crate::News;
 use crate::Progress;
 use crate::Rows;
@@ -70,8 +71,8 @@ fn close_text(
     payloads: &mut [u8],
     refused: &mut [u16],
 ) -> Step
-    requires { ⌜ Going progress (now numbers) × Lent (now settings) (now frames) (now payloads) (now refused) ⌝ }
-    ensures { λ r. ⌜ Going (r .progress) (now (numbers .exit)) × (r .at ≡ at) ⌝ }
+    requires { ⌜ Going progress (now numbers) (now settings) (now frames) (now payloads) (now refused) ⌝ }
+    ensures { λ r. ⌜ Going (r .progress) (now (numbers .exit)) (now (settings .exit)) (now (frames .exit)) (now (payloads .exit)) (now (refused .exit)) × (r .at ≡ at) ⌝ }
 {
     let scan = progress.scan;
     let rows = progress.rows;
@@ -98,8 +99,8 @@ fn take_part(
     end: usize,
     numbers: &mut [u16],
 ) -> Progress
-    requires { ⌜ Going progress (now numbers) × Ends (now chunk) at end ⌝ }
-    ensures { λ r. ⌜ Going r (now (numbers .exit)) ⌝ }
+    requires { ⌜ Sane (progress .scan) (now numbers) × Ends (now chunk) at end ⌝ }
+    ensures { λ r. ⌜ Sane (r .scan) (now (numbers .exit)) × (r .rows ≡ progress .rows) ⌝ }
 {
     let scan = progress.scan;
     let rows = progress.rows;
@@ -123,8 +124,8 @@ pub fn take(
     payloads: &mut [u8],
     refused: &mut [u16],
 ) -> Step
-    requires { ⌜ Going progress (now numbers) × (at < length (now chunk)) × Lent (now settings) (now frames) (now payloads) (now refused) ⌝ }
-    ensures { λ r. ⌜ Going (r .progress) (now (numbers .exit)) × (at < r .at) × (r .at ≤ length (now (chunk .entry))) ⌝ }
+    requires { ⌜ Going progress (now numbers) (now settings) (now frames) (now payloads) (now refused) × (at < length (now chunk)) ⌝ }
+    ensures { λ r. ⌜ Going (r .progress) (now (numbers .exit)) (now (settings .exit)) (now (frames .exit)) (now (payloads .exit)) (now (refused .exit)) × (at < r .at) × (r .at ≤ length (now (chunk .entry))) ⌝ }
 {
     let end = lines::line_end(chunk, at);
     let taken = take_part(progress, chunk, at, end, numbers);
@@ -147,8 +148,8 @@ pub fn finish(
     payloads: &mut [u8],
     refused: &mut [u16],
 ) -> Step
-    requires { ⌜ Going progress (now numbers) × Lent (now settings) (now frames) (now payloads) (now refused) ⌝ }
-    ensures { λ r. ⌜ Going (r .progress) (now (numbers .exit)) ⌝ }
+    requires { ⌜ Going progress (now numbers) (now settings) (now frames) (now payloads) (now refused) ⌝ }
+    ensures { λ r. ⌜ Going (r .progress) (now (numbers .exit)) (now (settings .exit)) (now (frames .exit)) (now (payloads .exit)) (now (refused .exit)) ⌝ }
 {
     if progress.begun {
         return close_text(progress, 0, numbers, settings, frames, payloads, refused);

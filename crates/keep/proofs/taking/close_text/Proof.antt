@@ -46,9 +46,16 @@ returns c =
     let begun = entered .before .before .before .before .before .before in
     let heard = begun .before .before .before .before .before .before in
     let start = heard .before .before .before .before .before .before .before .before .before .before in
+    let lists = start .pre .lent in
     let e = begun .begin .ensures in
-    let long : length (heard .hear-behind .last .1 .0) ≡ 834 = search needs in
-    (record { sane = holds-start (begun .begin .result) _ (e .0) (e .1) (e .2) (e .3) long .sane; few = entered .enter .ensures }, search needs)
+    let long : length (heard .hear-behind .last .1 .0) ≡ 834 = search needs in (
+      record {
+        sane = holds-start (begun .begin .result) _ (e .0) (e .1) (e .2) (e .3) long .sane;
+        few = entered .enter .ensures;
+        lent = record { texts = long; pairs = search needs; fives = search needs; bytes = search needs; threes = search needs };
+      },
+      search needs,
+    )
 
 pub close-text-spec : {M : Type 1} → statement M
 close-text-spec =

@@ -1,6 +1,7 @@
 -- `take` goes on behind a line end, or to the end of the chunk.
 -- Assumes nothing.
 use native.Mathlib.Omega.{arith}
+use Rattle.keep.proofs.GoingLaws.{going-on}
 use borrow.Author.Needs.{needs}
 use Rattle.keep.proofs.taking.take.Statement.{statement}
 use Rattle.keep.proofs.taking.take.Tie as tie
@@ -15,7 +16,7 @@ add-close-text : tie.Need-add-close-text
 add-close-text c = search needs
 
 close-text-requires : tie.Need-close-text-requires
-close-text-requires c κs = search needs
+close-text-requires c κs = let e = c .before .before .before .before .before .before .before .before .take-part .ensures in going-on (c .before .before .before .before .before .before .before .before .before .before .before .before .before .before .before .before .before .pre .0) (e .0) (e .1)
 
 same-length : tie.Need-same-length
 same-length c = search needs
@@ -36,13 +37,17 @@ returns : tie.Need-returns
 returns c =
     let closed = c .before .before .before .before .before .before .before .before .before .before in
     let end = closed .before .before .before .before .before .before .before .before .before .before .before .line-end .ensures in
-    (closed .close-text .ensures .0, omega (arith, end .forth, closed .close-text .ensures .1), omega (arith, closed .before .before .before .before .before .before .if1 .taken, closed .close-text .ensures .1))
+    let e = closed .close-text .ensures in
+    (e .0, omega (arith, end .forth, e .1), omega (arith, closed .before .before .before .before .before .before .if1 .taken, e .1))
 
 same-length-6 : tie.Need-same-length-6
 same-length-6 c = search needs
 
 returns-2 : tie.Need-returns-2
-returns-2 c = search needs
+returns-2 c =
+    let e = c .before .before .before .take-part .ensures in
+    let end = c .before .before .before .before .before .line-end .ensures in
+    (going-on (c .before .before .before .before .before .before .before .before .before .before .before .before .pre .0) (e .0) (e .1), omega (arith, c .if1 .left, c .before .before .before .before .before .before .before .before .before .before .before .before .pre .1), end .within)
 
 pub take-spec : {M : Type 1} → statement M
 take-spec =
