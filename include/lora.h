@@ -21,7 +21,7 @@
  *
  * What a function returns:
  *   0          accepted; `answer` holds the values told at the function, from answer[0] on
- *   1 to 16    refused; answer[0] holds the place, and nothing else is written
+ *   1 to 16    refused, with a number of the table; answer[0] holds the place, and nothing else is written
  *   255        `answer` has too few cells; nothing is written
  * Cells of `answer` and of `out` that are not named stay as they were.
  *
@@ -33,7 +33,6 @@
  *   LORA_FEW_SYMBOLS       5   fewer symbols than needed                                symbols needed
  *   LORA_SYMBOL_OVER       6   a symbol is 2^SF or more                                 its index
  *   LORA_UNREADABLE        7   a codeword at 4/5, 4/6 or 4/8 can't be read              its number in the frame
- *   LORA_UNREADABLE_4_7    8   never given (a codeword at 4/7 that can't be read)       its number in the frame
  *   LORA_HEADER_CHECK      9   header check bits wrong                                  0
  *   LORA_HEADER_BIT       10   a header bit that must be 0 is 1                         0
  *   LORA_HEADER_CR        11   header CR is 0, 5, 6 or 7                                0
@@ -44,13 +43,14 @@
  *   LORA_FILE_FIELD       16   a field of a day's file is outside its range             its byte
  *                              entries that a day's file can't hold (day_write)         0
  *
- * Codewords are numbered through the frame from 0, block after block, fillers counted. 14 is a number of the programs.
+ * Codewords are numbered through the frame from 0, block after block, fillers counted. 8 is not used: at 4/7 every codeword
+ * can be read. 14 is a number of the programs.
  *
  * The day's file: a first byte 1; then settings, frames and refused frames, each section after its number of entries in one
  * byte. A byte is a number, repairs and place take two, low first:
  *   a setting          SF, low-rate flag                                                        no pair twice
  *   a frame            settings index, CR, checksum flag, repairs (2), length, payload
- *   a refused frame    settings index, number (4 to 12), place (2)
+ *   a refused frame    settings index, number (4 to 7 or 9 to 12), place (2)
  * Here a flag is 0 or 1, and an index below the number of settings. Repairs, place and length may be any number.
  */
 #ifndef LORA_H
@@ -59,10 +59,10 @@
 #include <stddef.h>
 #include <stdint.h>
 
-#define LORA_VERSION_MAJOR 1
-#define LORA_VERSION_MINOR 2
+#define LORA_VERSION_MAJOR 2
+#define LORA_VERSION_MINOR 0
 #define LORA_VERSION_PATCH 0
-#define LORA_VERSION "1.2.0"
+#define LORA_VERSION "2.0.0"
 
 #ifdef __cplusplus
 extern "C" {
@@ -77,7 +77,6 @@ enum {
     LORA_FEW_SYMBOLS = 5,
     LORA_SYMBOL_OVER = 6,
     LORA_UNREADABLE = 7,
-    LORA_UNREADABLE_4_7 = 8,
     LORA_HEADER_CHECK = 9,
     LORA_HEADER_BIT = 10,
     LORA_HEADER_CR = 11,
@@ -100,7 +99,6 @@ static inline const char *lora_meaning(uint8_t number)
     case LORA_FEW_SYMBOLS: return "fewer symbols than needed";
     case LORA_SYMBOL_OVER: return "a symbol is 2^SF or more";
     case LORA_UNREADABLE: return "a codeword at 4/5, 4/6 or 4/8 can't be read";
-    case LORA_UNREADABLE_4_7: return "a codeword at 4/7 is over one bit from every codeword";
     case LORA_HEADER_CHECK: return "header check bits wrong";
     case LORA_HEADER_BIT: return "a header bit that must be 0 is 1";
     case LORA_HEADER_CR: return "header CR is 0, 5, 6 or 7";
@@ -160,8 +158,8 @@ uint8_t lora_head(uint8_t sf, const uint16_t *symbols, size_t symbols_len, uint6
 
 /* read: SF, low-rate flag and symbols; fills the lent byte buffer `out` from out[0] on with the payload; answers length,
  * CR, checksum flag, symbols used, codewords repaired. Symbols after the frame's own are ignored.
- * Checks what head checks; then 4 for the payload; 5 for the whole frame; 6 over the rest; 7 and 8 over data codewords in
- * frame order; 12. After a refusal `out` is as it was.
+ * Checks what head checks; then 4 for the payload; 5 for the whole frame; 6 over the rest; 7 over data codewords in frame
+ * order; 12. After a refusal `out` is as it was.
  * `answer` needs 5 cells: [0] length, [1] CR, [2] checksum flag (0 or 1), [3] symbols used, [4] codewords repaired. */
 uint8_t lora_read(uint8_t sf, uint8_t low, const uint16_t *symbols, size_t symbols_len, uint8_t *out, size_t out_len,
                   uint64_t *answer, size_t answer_len);

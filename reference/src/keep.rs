@@ -1,7 +1,7 @@
 //! The program that keeps a day: captures in, the day's file out, and on standard
 //! error what the file can't hold.
 
-use crate::plain::day::{self, Day, Frame, RefusedFrame, Setting};
+use crate::plain::day::{self, Day, Frame, RefusedFrame, Setting, NUMBERS};
 use crate::text::{self, Capture};
 use crate::types::{Received, Refusal};
 use crate::words::refusal_line;
@@ -57,10 +57,7 @@ fn enter(text: &[u8], day: &mut Day) -> Result<(), Refusal> {
             });
             Ok(())
         }
-        Err(Refusal {
-            number: number @ 4..=12,
-            place,
-        }) => {
+        Err(Refusal { number, place }) if NUMBERS.contains(&number) => {
             let setting = setting_of(&capture, day);
             day.refused.push(RefusedFrame {
                 setting,

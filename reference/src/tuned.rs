@@ -123,7 +123,7 @@ pub fn read(sf: u8, low: bool, symbols: &[u16], out: &mut [u8]) -> Result<Receiv
     for (block, (symbols, nibbles)) in blocks.zip(in_later.chunks_mut(shape.rows)).enumerate() {
         let lanes = later_lanes(symbols, shape.rows, shift);
         repairs += read_words(lanes, cr, 0, nibbles)
-            .or_else(|i| refuse(if cr == 3 { 8 } else { 7 }, first + block * shape.rows + i))?;
+            .or_else(|i| refuse(7, first + block * shape.rows + i))?;
     }
 
     let (pairs, _) = nibbles.as_chunks::<2>();

@@ -38,7 +38,7 @@ pub struct DayFrame {
 pub struct DayRefused {
     /// Index of its setting.
     pub setting: u16,
-    /// The refusal's number, 4 to 12.
+    /// The refusal's number, 4 to 7 or 9 to 12.
     pub number: u16,
     /// The refusal's place, any number.
     pub place: u16,

@@ -89,7 +89,7 @@ extern "C" {
 
     /// Writes the payload from `out[0]` on and answers length, CR, checksum flag
     /// (0 or 1), symbols used and codewords repaired in `answer[0]` to
-    /// `answer[4]`. Checks what head checks, then 4, 5, 6, 7 and 8, 12.
+    /// `answer[4]`. Checks what head checks, then 4, 5, 6, 7, 12.
     pub fn lora_read(
         sf: u8,
         low: u8,

@@ -23,9 +23,6 @@ pub enum RefusalKind {
     /// 7: a codeword at 4/5, 4/6 or 4/8 can't be read. The place is its number
     /// in the frame.
     Unreadable = 7,
-    /// 8: a codeword at 4/7 is over one bit from every codeword. The place is
-    /// its number in the frame.
-    Unreadable47 = 8,
     /// 9: the header's check bits are wrong.
     HeaderCheck = 9,
     /// 10: a header bit that must be 0 is 1.
@@ -46,8 +43,9 @@ pub enum RefusalKind {
 
 use RefusalKind::*;
 
-/// All kinds. 14 is a number of the programs alone.
-const KINDS: [RefusalKind; 15] = [
+/// All kinds. 8 is not used, since at 4/7 every codeword can be read; 14 is a
+/// number of the programs alone.
+const KINDS: [RefusalKind; 14] = [
     BadSf,
     BadCr,
     TooLong,
@@ -55,7 +53,6 @@ const KINDS: [RefusalKind; 15] = [
     FewSymbols,
     SymbolOver,
     Unreadable,
-    Unreadable47,
     HeaderCheck,
     HeaderBit,
     HeaderCr,
@@ -81,7 +78,6 @@ impl RefusalKind {
             FewSymbols => "fewer symbols than needed",
             SymbolOver => "a symbol is 2^SF or more",
             Unreadable => "a codeword at 4/5, 4/6 or 4/8 can't be read",
-            Unreadable47 => "a codeword at 4/7 is over one bit from every codeword",
             HeaderCheck => "header check bits wrong",
             HeaderBit => "a header bit that must be 0 is 1",
             HeaderCr => "header CR is 0, 5, 6 or 7",

@@ -7,8 +7,8 @@ use native.Mathlib.Nat.{add-zero, add-suc}
 use native.Mathlib.Numerals.{add-one}
 use native.Mathlib.Omega.{arith}
 use native.Mathlib.Decide.{ℕ-discrete}
-use lib.Dec.{leb}
-use borrow.Author.Tests.{leb-true, leb-false, le-leb, lt-leb}
+use lib.Dec.{leb, ltb}
+use borrow.Author.Tests.{leb-true, leb-false, le-leb, lt-leb, ltb-true, ltb-false}
 use Rattle.bits.specs.Bit.{asBit}
 use Rattle.bits.specs.Search.{first, howMany}
 
@@ -113,6 +113,27 @@ module _ (p : ℕ → Bool) where
   unfolding howMany
   howMany-none zero f = refl
   howMany-none (suc n) f = rw (howMany-none n (λ k h. f k (omega arith)), f n (omega arith))
+
+  -- where none is counted the test holds nowhere
+  pub howMany-zero : (n : ℕ) → howMany p n ≡ 0 → (k : ℕ) → k < n → p k ≡ false
+  unfolding howMany
+  howMany-zero zero e k h = absurd (omega arith)
+  howMany-zero (suc n) e k h = go (ℕ-discrete k n) (p n) refl e (λ z. howMany-zero n z k)
+    where
+      go : Dec (k ≡ n) → (b : Bool) → p n ≡ b → howMany p n + asBit b ≡ 0 → (howMany p n ≡ 0 → k < n → p k ≡ false) → p k ≡ false
+      go d true f z below = absurd (omega arith)
+      go (yes q) false f z below = ap p q ∙ f
+      go (no q) false f z below = below (omega arith) (omega arith)
+
+  -- where some place is counted, the search finds one
+  pub howMany-some : (n : ℕ) → 0 < howMany p n → first p n 0 < n
+  howMany-some n h = at (ltb (first p n 0) n) refl
+    where
+      at : (b : Bool) → ltb (first p n 0) n ≡ b → first p n 0 < n
+      at true e = ltb-true (first p n 0) n e
+      at false e =
+          let behind : n ≤ first p n 0 = ltb-false (first p n 0) n e in
+          absurd (omega (arith, howMany-none n (λ k l. first-before p n 0 k (omega arith) (omega arith))))
 
 pub howMany-cong : (p q : ℕ → Bool) (n : ℕ) → ((k : ℕ) → k < n → p k ≡ q k) → howMany p n ≡ howMany q n
 unfolding howMany

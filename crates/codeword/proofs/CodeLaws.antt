@@ -2,12 +2,14 @@
 -- Assumes nothing.
 use mathlib.Core.Path.{_≡_, refl, sym, ap, _∙_}
 use mathlib.Core.Bool.{Bool, true, false, _&&_, cond}
-use Prim.Native.Nat.{ℕ, _+_, _^_, _≤_, _<_}
+use Prim.Native.Nat.{ℕ, zero, suc, _+_, _-_, _^_, _≤_, _<_}
 use native.Mathlib.Omega.{arith}
 use lib.Dec.{eqb, leb, ltb}
-use borrow.Author.Tests.{ltb-true, le-leb, lt-leb}
+use borrow.Author.Tests.{ltb-true, le-leb, lt-leb, eqb-true, not-false}
 use Rattle.bits.specs.Search.{first}
-use Rattle.codeword.specs.Codeword.{codeword, apart, readAs, nibbleOf}
+use Rattle.bits.proofs.Bits.{bit-lt, number-lt, same-bits}
+use Rattle.bits.proofs.Searches.{howMany-zero}
+use Rattle.codeword.specs.Codeword.{parity, parityOfAll, parityBit, codewordBit, codeword, apart, readAs, nibbleOf}
 use Rattle.codeword.specs.Ranges.{Rate}
 use Rattle.codeword.specs.declared.Found.the-variants.{Taken, Repaired, Unreadable}
 use Rattle.codeword.proofs.Alike.{alike→eq}
@@ -36,6 +38,26 @@ module _ (cr w d : ℕ) (rate : Rate cr) (word : w < 2 ^ (4 + cr)) (nibble : d <
 pub found-two : (w d : ℕ) → w < 256 → d < 16 → apart 4 w (codeword 4 d) ≡ 2 → readAs 4 w ≡ Unreadable
 unfolding told
 found-two w d h l e = alike→eq _ _ (by-distance 4 w (record { low = omega arith; high = omega arith }) h d 2 l e)
+
+-- a word with the bits of a codeword is that codeword
+parity-lt : (k d : ℕ) → parity k d < 2
+unfolding parity
+parity-lt zero d = omega arith
+parity-lt (suc zero) d = omega arith
+parity-lt (suc (suc zero)) d = omega arith
+parity-lt (suc (suc (suc k))) d = omega arith
+
+codeword-lt : (cr d : ℕ) → codeword cr d < 2 ^ (4 + cr)
+unfolding codeword codewordBit parityBit parityOfAll
+codeword-lt cr d = number-lt (4 + cr) (codewordBit cr d) (λ j. of (ltb j 4) (bit-lt j d) (of (eqb cr 1) (omega arith) (parity-lt (j - 4) d)))
+  where
+    of : (b : Bool) {x y : ℕ} → x < 2 → y < 2 → cond b x y < 2
+    of true h l = h
+    of false h l = l
+
+pub same-word : (cr w d : ℕ) → w < 2 ^ (4 + cr) → apart cr w (codeword cr d) ≡ 0 → w ≡ codeword cr d
+unfolding apart
+same-word cr w d word e = same-bits (4 + cr) w (codeword cr d) word (codeword-lt cr d) (λ k l. eqb-true _ _ (not-false _ (howMany-zero _ (4 + cr) e k l)))
 
 -- at most one nibble's codeword is the word, and at CR 3 and 4 at most one is one bit away from it
 module _ (cr w d e : ℕ) (rate : Rate cr) (word : w < 2 ^ (4 + cr)) (one : d < 16) (other : e < 16) where

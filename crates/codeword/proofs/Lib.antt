@@ -2,3 +2,4 @@ pub mod Alike
 pub mod CodeLaws
 pub mod EveryWord
 pub mod Lookup
+pub mod Perfect

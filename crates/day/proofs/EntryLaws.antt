@@ -11,7 +11,7 @@ use lib.ListN.{length, getD}
 use Rattle.bits.specs.Check.{check}
 use Rattle.bits.specs.Tab.{tab}
 use Rattle.day.specs.Script.{one, came, stop, walk}
-use Rattle.day.specs.Day.{Setting, RefusedFrame, within, isFlag, isNew, given, isPair, setting, refusedFrame}
+use Rattle.day.specs.Day.{Setting, RefusedFrame, within, isFlag, isNumber, isNew, given, isPair, setting, refusedFrame}
 use Rattle.day.specs.Stages.{faultOf, spot, pairAt, settingsBefore}
 use Rattle.day.specs.declared.entries.Went.{Went}
 use Rattle.day.specs.declared.entries.Went.the-variants.{On, Stop}
@@ -40,23 +40,23 @@ module _ (bytes : List ℕ) (n at : ℕ) where
   no-index r e z = rw (off (within 0 n) bytes at _ r e z)
 
   module _ (z0 : faultOf (within 0 n) bytes at ≡ 0) where
-    pub no-number : (r : ℕ) → r ≡ faultOf (within 4 13) bytes p1 → (r ≡ 0 → ⊥) → Spot (Stop r p1)
+    pub no-number : (r : ℕ) → r ≡ faultOf isNumber bytes p1 → (r ≡ 0 → ⊥) → Spot (Stop r p1)
     unfolding refusedFrame spot
-    no-number r e z = rw (on (within 0 n) bytes at _ z0 (off (within 4 13) bytes p1 _ r e z))
+    no-number r e z = rw (on (within 0 n) bytes at _ z0 (off isNumber bytes p1 _ r e z))
 
-    module _ (z1 : faultOf (within 4 13) bytes p1 ≡ 0) where
+    module _ (z1 : faultOf isNumber bytes p1 ≡ 0) where
       pub no-low : (r : ℕ) → r ≡ faultOf (within 0 256) bytes p2 → (r ≡ 0 → ⊥) → Spot (Stop r p2)
       unfolding refusedFrame spot
-      no-low r e z = rw (on (within 0 n) bytes at _ z0 (on (within 4 13) bytes p1 _ z1 (two-off-low bytes p2 _ r e z)))
+      no-low r e z = rw (on (within 0 n) bytes at _ z0 (on isNumber bytes p1 _ z1 (two-off-low bytes p2 _ r e z)))
 
       module _ (z2 : faultOf (within 0 256) bytes p2 ≡ 0) where
         pub no-high : (r : ℕ) → r ≡ faultOf (within 0 256) bytes p3 → (r ≡ 0 → ⊥) → Spot (Stop r p3)
         unfolding refusedFrame spot
-        no-high r e z = rw (on (within 0 n) bytes at _ z0 (on (within 4 13) bytes p1 _ z1 (two-off-high bytes p2 _ r z2 e z)))
+        no-high r e z = rw (on (within 0 n) bytes at _ z0 (on isNumber bytes p1 _ z1 (two-off-high bytes p2 _ r z2 e z)))
 
         pub is-refused : faultOf (within 0 256) bytes p3 ≡ 0 → Spot (On (p3 + 1))
         unfolding refusedFrame spot
-        is-refused z3 = rw (on (within 0 n) bytes at _ z0 (on (within 4 13) bytes p1 _ z1 (two-on bytes p2 _ z2 z3 (done-back _ bytes _))))
+        is-refused z3 = rw (on (within 0 n) bytes at _ z0 (on isNumber bytes p1 _ z1 (two-on bytes p2 _ z2 z3 (done-back _ bytes _))))
 
 -- a pair among settings
 given-more : (sf low : ℕ) (l : List Setting) (s : Setting) → given sf low (l ++ (s ∷ [])) ≡ given sf low l || isPair sf low s

@@ -20,6 +20,7 @@ pub examples :
     × (judged kind1 (1 ∷ 0 ∷ 0 ∷ 0 ∷ 5 ∷ []) ≡ refused 15 4)
     × (judged kind1 (1 ∷ 2 ∷ 7 ∷ 1 ∷ 7 ∷ 1 ∷ []) ≡ refused 16 5)
     × (judged kind1 (1 ∷ 0 ∷ 1 ∷ 0 ∷ []) ≡ refused 16 3)
+    × (judged kind1 (1 ∷ 1 ∷ 7 ∷ 0 ∷ 0 ∷ 1 ∷ 0 ∷ 8 ∷ 0 ∷ 0 ∷ []) ≡ refused 16 7)
     × (judged kind1 (1 ∷ 1 ∷ 7 ∷ 0 ∷ 1 ∷ 0 ∷ 1 ∷ 0 ∷ 0 ∷ 0 ∷ 3 ∷ 9 ∷ []) ≡ refused 15 12)
 unfolding judged day section count two one many walk _>>=_ setting frame refusedFrame anyByte given fileOf putSection putCount lowFirst putEach
-examples = (refl, refl, refl, refl, refl, refl, refl, refl)
+examples = (refl, refl, refl, refl, refl, refl, refl, refl, refl)

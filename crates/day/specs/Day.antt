@@ -53,9 +53,9 @@ isSf = within 7 13
 abbrev pub isCr : ℕ → Bool
 isCr = within 1 5
 
--- the numbers with which a frame is refused
+-- the numbers with which a frame is refused: 4 to 7 and 9 to 12 (Ask 5: 8 is none)
 abbrev pub isNumber : ℕ → Bool
-isNumber = within 4 13
+isNumber b = within 4 8 b || within 9 13 b
 
 -- a settings pair is given
 abbrev pub isPair : ℕ → ℕ → Setting → Bool

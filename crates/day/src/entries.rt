@@ -1,6 +1,5 @@
 // The entry at a place, field by field.
 ghost use mathlib.Core.Path.{_≡_};
-ghost use mathlib.Core.Bool.{_||_};
 ghost use mathlib.Core.List.{[]};
 ghost use Prim.Native.Nat.{_-_, _*_, _/_, _≤_};
 ghost use lib.ListN.{length};
@@ -12,6 +11,7 @@ use crate::fields::byte_at;
 use crate::fields::fault;
 use crate::fields::low_first;
 use crate::fields::number_fault;
+use crate::fields::or;
 use bits::wide;
 
 // What stands at a place where a frame should: its fields and where its payload lies; or a refusal.
@@ -159,12 +159,6 @@ pub fn refused_end(bytes: &[u8], at: usize, settings: usize) -> Went
         };
     }
     Went::On { at: p3 + 1 }
-}
-
-fn or(a: bool, b: bool) -> bool
-    ensures { λ r. ⌜ r ≡ a || b ⌝ }
-{
-    if a { true } else { b }
 }
 
 // Whether pair k, of those that stand from a place on, is this one.

@@ -1,5 +1,6 @@
 // One byte of the file, and the test that it has to pass.
 ghost use mathlib.Core.Path.{_≡_};
+ghost use mathlib.Core.Bool.{_||_};
 ghost use Prim.Native.Nat.{_+_, _*_};
 ghost use lib.ListN.{getD};
 ghost use Rattle.day.specs.Day.{within as isWithin, isNumber};
@@ -20,11 +21,17 @@ pub fn within(n: usize, low: usize, end: usize) -> bool
     if low <= n { n < end } else { false }
 }
 
-// Whether frames are refused with this number.
+pub fn or(a: bool, b: bool) -> bool
+    ensures { λ r. ⌜ r ≡ a || b ⌝ }
+{
+    if a { true } else { b }
+}
+
+// Whether frames are refused with this number: 4 to 7 or 9 to 12.
 pub fn is_number(n: usize) -> bool
     ensures { λ r. ⌜ r ≡ isNumber n ⌝ }
 {
-    within(n, 4, 13)
+    or(within(n, 4, 8), within(n, 9, 13))
 }
 
 // Whether the byte at a place is there and is fine: 0, or else 15 or 16.

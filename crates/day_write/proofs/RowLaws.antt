@@ -1,7 +1,7 @@
 -- Laws of rows of numbers: the tests that they passed say which numbers fit in a byte and which bytes are there.
 -- Assumes nothing.
 use mathlib.Core.Path.{_≡_, refl}
-use mathlib.Core.Bool.{true}
+use mathlib.Core.Bool.{Bool, true, false, _||_}
 use mathlib.Core.List.{List, []}
 use mathlib.Core.Logic.{⊎-elim}
 use Prim.Native.Nat.{ℕ, zero, suc, _+_, _*_, _/_, _%_, _<_, _≤_}
@@ -42,12 +42,19 @@ frame-below settings before f g =
     let (len, bytes) = both-true (isByte (length (f .payload))) _ d in
     (below 0 settings _ index, below 1 5 _ cr, below 0 2 _ flag, below 0 256 _ len)
 
+number-below : (n : ℕ) → isNumber n ≡ true → n < 13
+number-below n t = at (within 4 8 n) refl t
+  where
+    at : (b : Bool) → within 4 8 n ≡ b → b || within 9 13 n ≡ true → n < 13
+    at true e u = omega (arith, below 4 8 n e)
+    at false e u = below 9 13 n u
+
 refused-below : (settings : ℕ) (before : List RefusedFrame) (r : RefusedFrame) → refusedFrame settings .good before r ≡ true → (r .setting < settings) × (r .number < 13)
 unfolding refusedFrame
 refused-below settings before r g =
     let (index, a) = both-true (within 0 settings (r .setting)) _ g in
     let (number, place) = both-true (isNumber (r .number)) _ a in
-    (below 0 settings _ index, below 4 13 _ number)
+    (below 0 settings _ index, number-below _ number)
 
 -- good entries are good where there are more settings
 module _ (settings more : ℕ) (h : settings ≤ more) where

@@ -18,7 +18,7 @@ use Rattle.layout.specs.Ranges.{Valid}
 use Rattle.layout.specs.declared.Frame.{Frame}
 use Rattle.layout.proofs.LayoutLaws.{data-le, nibbles-le, symbols-le}
 use Rattle.lora.specs.Head.{isOver, firstOver, headerFound, unreadableInHeader, said, headerOf, headOf}
-use Rattle.lora.specs.Read.{overInRest, unreadableInData, refusalAt, sumHolds, repairsOf, acceptedOf, bodyOf, frameSaid, onward, readOf}
+use Rattle.lora.specs.Read.{overInRest, unreadableInData, sumHolds, repairsOf, acceptedOf, bodyOf, frameSaid, onward, readOf}
 use Rattle.lora.specs.declared.Heading.{Heading}
 use Rattle.lora.specs.declared.Heading.the-variants.{Says, Refused as HeadRefused}
 use Rattle.lora.specs.declared.Received.the-variants.{Payload, Refused}
@@ -78,7 +78,7 @@ module _ (F : Frame) (symbols : List ℕ) (len : ℕ) (v : Valid F) (short : len
     where
       by : (t u w x y : Bool)
           → Read (check t (Refused 4 len) (check u (Refused 5 (symbolsOf F len)) (check w (Refused 6 (overInRest F symbols len))
-          (check x (Refused (refusalAt F (unreadableInData F symbols len)) (unreadableInData F symbols len)) (check y (Refused 12 0) (Payload (acceptedOf F symbols len)))))))
+          (check x (Refused 7 (unreadableInData F symbols len)) (check y (Refused 12 0) (Payload (acceptedOf F symbols len)))))))
       by true true true true true = fits
       by true true true true false = omega arith
       by true true true false y = data-place

@@ -12,7 +12,7 @@ use Rattle.bits.specs.Check.{check}
 use Rattle.layout.specs.Layout.{validSf, nibblesOf, symbolsOf}
 use Rattle.layout.specs.declared.Frame.{Frame}
 use Rattle.lora.specs.Head.{headOf}
-use Rattle.lora.specs.Read.{overInRest, unreadableInData, refusalAt, sumHolds, acceptedOf, bodyOf, frameSaid, onward, readOf, bytesAfter}
+use Rattle.lora.specs.Read.{overInRest, unreadableInData, sumHolds, acceptedOf, bodyOf, frameSaid, onward, readOf, bytesAfter}
 use Rattle.lora.specs.Stages.{bytesRead}
 use Rattle.lora.specs.declared.Accepted.{Accepted}
 use Rattle.lora.specs.declared.Heading.{Heading}
@@ -34,7 +34,7 @@ body-accepts F symbols room len a e =
   where
     keeps : (t u v w x : Bool) (b : Accepted) → leb len room ≡ t
         → check t (Refused 4 len) (check u (Refused 5 (symbolsOf F len)) (check v (Refused 6 (overInRest F symbols len))
-        (check w (Refused (refusalAt F (unreadableInData F symbols len)) (unreadableInData F symbols len)) (check x (Refused 12 0) (Payload b))))) ≡ Payload a
+        (check w (Refused 7 (unreadableInData F symbols len)) (check x (Refused 12 0) (Payload b))))) ≡ Payload a
         → (b ≡ a) × (len ≤ room)
     keeps true true true true true b f g = (cc, leb-true len room f)
     keeps true true true true false b f g = absurd (let z : _≡_ {A = ℕ} 0 1 = cc in omega arith)

@@ -26,7 +26,7 @@ use Rattle.reading.specs.Payload.{payloadByte, sentChecksum}
 use Rattle.reading.specs.Stages.{gridOfSymbols, dataFound, listed, Walk}
 use Rattle.reading.proofs.ReadingLaws.{blank-small, nibble-data-lt, walk-nibbles, walk-small, payload-cong, checksum-cong}
 use Rattle.lora.specs.Head.{headerFound}
-use Rattle.lora.specs.Read.{overInRest, unreadableInData, refusalAt, nibbleFound, byteFound, sumHolds, repairsOf, acceptedOf, bodyOf, frameSaid}
+use Rattle.lora.specs.Read.{overInRest, unreadableInData, nibbleFound, byteFound, sumHolds, repairsOf, acceptedOf, bodyOf, frameSaid}
 use Rattle.lora.specs.Stages.{sumAgrees, Headed, dataOf}
 use Rattle.lora.specs.declared.Accepted.{Accepted}
 use Rattle.lora.specs.declared.Received.the-variants.{Payload, Refused}
@@ -124,9 +124,9 @@ module _ {F : Frame} {symbols : List ℕ} {len before : ℕ} {nibbles : List ℕ
         ∙ sym (howMany-add (repairedAt (foundAt F symbols)) (F .header) (dataNibbles len (F .checked)))
 
   -- the three answers: a codeword that can't be read, a checksum that disagrees, and the payload
-  pub says-unreadable : (number : ℕ) → F .header + end < nibblesOf F len → number ≡ refusalAt F (F .header + end) → Refused number (F .header + end) ≡ dataOf F symbols len
+  pub says-unreadable : F .header + end < nibblesOf F len → Refused 7 (F .header + end) ≡ dataOf F symbols len
   unfolding dataOf
-  says-unreadable number l e = rw (← run-ends, lt-leb _ _ l, e)
+  says-unreadable l = rw (← run-ends, lt-leb _ _ l)
 
   pub says-twelve : (payload d : List ℕ) → nibblesOf F len ≤ F .header + end → payload ≡ over len (payloadByte (F .header) (listed nibbles)) d
       → sumAgrees F len payload nibbles ≡ false → Refused 12 0 ≡ dataOf F symbols len
@@ -145,7 +145,7 @@ unfolding dataOf acceptedOf
 data-length F symbols len a e = at (leb (nibblesOf F len) (unreadableInData F symbols len)) (sumHolds F symbols len) (acceptedOf F symbols len) refl e
   where
     at : (p q : Bool) (b : Accepted) → b .length ≡ len
-        → check p (Refused (refusalAt F (unreadableInData F symbols len)) (unreadableInData F symbols len)) (check q (Refused 12 0) (Payload b)) ≡ Payload a
+        → check p (Refused 7 (unreadableInData F symbols len)) (check q (Refused 12 0) (Payload b)) ≡ Payload a
         → a .length ≡ len
     at true true b g f = let same : a ≡ b = cc in rw same g
     at true false b g f = absurd (let z : _≡_ {A = ℕ} 0 1 = cc in omega arith)

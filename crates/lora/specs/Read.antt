@@ -1,5 +1,5 @@
--- The operation read: it checks what head checks; then 4 for the payload; 5 for the whole frame; 6 over the rest; 7 and 8 over
--- data codewords in frame order; 12. Symbols after the frame's own are ignored, fillers are skipped.
+-- The operation read: it checks what head checks; then 4 for the payload; 5 for the whole frame; 6 over the rest; 7 over data
+-- codewords in frame order; 12. Symbols after the frame's own are ignored, fillers are skipped.
 -- Assumes nothing.
 use mathlib.Core.Bool.{Bool, true, cond}
 use mathlib.Core.List.{List}
@@ -11,7 +11,7 @@ use Rattle.bits.specs.Check.{check}
 use Rattle.bits.specs.Search.{first, howMany}
 use Rattle.bits.specs.Tab.{tab, over}
 use Rattle.checksum.specs.Checksum.{checksum}
-use Rattle.layout.specs.Layout.{blockOf, blockOfCodeword, dataNibbles, nibblesOf, symbolsOf}
+use Rattle.layout.specs.Layout.{dataNibbles, nibblesOf, symbolsOf}
 use Rattle.layout.specs.declared.Frame.{Frame}
 use Rattle.reading.specs.Found.{foundAt, unreadableAt, repairedAt, nibbleAt}
 use Rattle.reading.specs.Payload.{payloadByte, sentChecksum}
@@ -27,12 +27,9 @@ use Rattle.lora.specs.declared.Received.the-variants.{Payload, Refused}
 unfoldable pub overInRest : Frame → List ℕ → ℕ → ℕ
 overInRest F symbols len = firstOver (F .sf) symbols (symbolsOf F len - 8) 8
 
--- the first data codeword that can't be read, and the number of that refusal: 8 at 4/7, else 7
+-- 7 over data codewords in frame order: the first that can't be read
 unfoldable pub unreadableInData : Frame → List ℕ → ℕ → ℕ
 unreadableInData F symbols len = first (unreadableAt (foundAt F symbols)) (dataNibbles len (F .checked)) (F .header)
-
-unfoldable pub refusalAt : Frame → ℕ → ℕ
-refusalAt F i = cond (eqb (blockOf F (blockOfCodeword F i) .rate) 3) 8 7
 
 -- the nibble that codeword i is read as, and byte p of the payload
 unfoldable pub nibbleFound : Frame → List ℕ → ℕ → ℕ
@@ -60,7 +57,7 @@ bodyOf F symbols room len =
     check (leb len room) (Refused 4 len)
     (check (leb (symbolsOf F len) (length symbols)) (Refused 5 (symbolsOf F len))
     (check (leb (symbolsOf F len) (overInRest F symbols len)) (Refused 6 (overInRest F symbols len))
-    (check (leb (nibblesOf F len) (unreadableInData F symbols len)) (Refused (refusalAt F (unreadableInData F symbols len)) (unreadableInData F symbols len))
+    (check (leb (nibblesOf F len) (unreadableInData F symbols len)) (Refused 7 (unreadableInData F symbols len))
     (check (sumHolds F symbols len) (Refused 12 0)
     (Payload (acceptedOf F symbols len))))))
 

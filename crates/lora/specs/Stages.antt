@@ -19,7 +19,7 @@ use Rattle.reading.specs.Found.{foundAt, repairedAt}
 use Rattle.reading.specs.Payload.{sentChecksum}
 use Rattle.reading.specs.Stages.{gridOfSymbols, listed}
 use Rattle.lora.specs.Head.{headerFound, headerOf, headOf}
-use Rattle.lora.specs.Read.{unreadableInData, refusalAt, sumHolds, acceptedOf, byteFound, bodyOf}
+use Rattle.lora.specs.Read.{unreadableInData, sumHolds, acceptedOf, byteFound, bodyOf}
 use Rattle.lora.specs.declared.opening.Entry.{Entry}
 use Rattle.lora.specs.declared.opening.Entry.the-variants.{Passed, Refused as EntryRefused}
 use Rattle.lora.specs.declared.Heading.{Heading}
@@ -58,7 +58,7 @@ sumAgrees F len payload nibbles =
 -- the checks of read from 7 on
 unfoldable pub dataOf : Frame → List ℕ → ℕ → Received
 dataOf F symbols len =
-    check (leb (nibblesOf F len) (unreadableInData F symbols len)) (Refused (refusalAt F (unreadableInData F symbols len)) (unreadableInData F symbols len))
+    check (leb (nibblesOf F len) (unreadableInData F symbols len)) (Refused 7 (unreadableInData F symbols len))
     (check (sumHolds F symbols len) (Refused 12 0)
     (Payload (acceptedOf F symbols len)))
 

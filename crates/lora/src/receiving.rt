@@ -6,7 +6,7 @@ ghost use Rattle.bits.specs.Tab.{over};
 ghost use Rattle.codeword.specs.Readings.{readingTable};
 ghost use Rattle.layout.specs.Ranges.{Valid};
 ghost use Rattle.reading.specs.Stages.{listed};
-ghost use Rattle.lora.specs.Read.{refusalAt, Reading};
+ghost use Rattle.lora.specs.Read.{Reading};
 ghost use Rattle.lora.specs.Stages.{Entered, sumAgrees, Headed, Decodable, Decoded, Bodied};
 ghost use Rattle.lora.specs.declared.opening.Entry.the-variants.{Passed};
 use crate::Accepted;
@@ -20,21 +20,6 @@ use codeword::WORDS;
 use layout::Frame;
 use layout::LONGEST;
 use reading::NIBBLES;
-
-// The number of the refusal of a codeword that can't be read: 8 at 4/7, else 7.
-fn refusal_at(f: Frame, i: usize) -> u8
-    requires { ⌜ Valid f ⌝ }
-    ensures { λ r. ⌜ r ≡ refusalAt f i ⌝ }
-{
-    if i < bits::wide(f.sf) - 2 {
-        return refusal::UNREADABLE;
-    }
-    if f.cr == 3 {
-        refusal::UNREADABLE_4_7
-    } else {
-        refusal::UNREADABLE
-    }
-}
 
 // Whether the payload's checksum is the one that was sent, where there is one.
 fn sum_holds(f: Frame, len: usize, payload: [u8; LONGEST], nibbles: &[u8; NIBBLES]) -> bool
@@ -76,7 +61,7 @@ fn decode(
         return Body {
             payload: [0u8; LONGEST],
             answer: Received::Refused {
-                number: refusal_at(f, end),
+                number: refusal::UNREADABLE,
                 place: end,
             },
         };

@@ -13,7 +13,7 @@ use Rattle.bits.proofs.Searches.{first-none, first-is, first-found, first-befor
 use Rattle.layout.specs.Layout.{symbolsOf}
 use Rattle.lora.specs.Code.{sentNibble}
 use Rattle.lora.specs.Count.{frameOf}
-use Rattle.lora.specs.Read.{refusalAt, readOf, bytesAfter, Reading}
+use Rattle.lora.specs.Read.{readOf, bytesAfter, Reading}
 use Rattle.lora.specs.declared.Settings.{Settings}
 use Rattle.lora.specs.declared.Received.{Received}
 use Rattle.lora.specs.declared.Received.the-variants.{Refused}
@@ -28,7 +28,6 @@ pub record FoundAs (test : ℕ → Bool) (s : Settings) (payload arrived : List 
   pub unreadable : unreadableAt (foundAt (frameOf s) arrived) i ≡ test i
   pub repaired : test i ≡ false → repairedAt (foundAt (frameOf s) arrived) i ≡ hurt s payload arrived i
   pub nibble : test i ≡ false → nibbleAt (foundAt (frameOf s) arrived) i ≡ sentNibble s payload i
-  pub seven : test i ≡ true → refusalAt (frameOf s) i ≡ 7
 
 module _ (test : ℕ → Bool) (s : Settings) (payload arrived old new : List ℕ) (answer : Received) (p : Sent s payload)
     (enough : symbolsOf (frameOf s) (length payload) ≤ length arrived)
@@ -66,8 +65,7 @@ module _ (test : ℕ → Bool) (s : Settings) (payload arrived old new : List �
           rw at at (read-refused-in-header s payload arrived p enough below good (length old) fits (rw at l))
       by false e at =
           let l : 5 ≤ i = ltb-false i 5 e in
-          let r = rw at at (read-refused s payload arrived p enough below good (length old) fits (rw at l) (rw at h)) in
-          r ∙ ap (λ (x : ℕ). Refused x i) (each i h .seven holds)
+          rw at at (read-refused s payload arrived p enough below good (length old) fits (rw at l) (rw at h))
 
   pub answered : ReturnedUnless test s payload arrived (symbolsOf (frameOf s) (length payload)) old new answer
   answered = record { decided = by (ltb at (readWords s payload)) refl }

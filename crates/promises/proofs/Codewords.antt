@@ -16,13 +16,12 @@ use Rattle.layout.specs.Layout.{blockOfCodeword, symbolsOf}
 use Rattle.layout.proofs.LayoutLaws.{block-of-read}
 use Rattle.lora.specs.Code.{sentNibble, sentSymbol, Coding}
 use Rattle.lora.specs.Count.{frameOf}
-use Rattle.lora.specs.Read.{refusalAt}
 use Rattle.lora.specs.declared.Settings.{Settings}
 use Rattle.lora.specs.declared.Counted.the-variants.{Symbols}
 use Rattle.lora.specs.declared.Received.{Received}
 use Rattle.lora.proofs.CountLaws.{coded}
 use Rattle.reading.specs.Found.{foundAt}
-use Rattle.promises.specs.Damage.{readWords, blockFor, blockAt, changedBits, FewSymbols, FewBits, Passed, hurt, hurtAfterFirst, hurtTwice, ReturnedUnless}
+use Rattle.promises.specs.Damage.{readWords, blockFor, changedBits, FewSymbols, FewBits, Passed, hurt, hurtAfterFirst, hurtTwice, ReturnedUnless}
 use Rattle.promises.proofs.Near.{Sent, changed-le, found-none, found-repaired, found-unreadable, found-double, rate-in-first, rate-in-later}
 use Rattle.promises.proofs.Answers.{FoundAs, answered}
 
@@ -59,10 +58,6 @@ module _ (s : Settings) (payload arrived : List ℕ) (i : ℕ) where
   pub twice : (n : ℕ) → changedBits s payload arrived i ≡ n → hurtTwice s payload arrived i ≡ eqb n 2
   unfolding hurtTwice
   twice n e = rw e
-
-seven-at : (s : Settings) (i : ℕ) → (blockFor s i .rate ≡ 3 → ⊥) → refusalAt (frameOf s) i ≡ 7
-unfolding refusalAt blockFor blockAt
-seven-at s i h = rw (ne-eqb _ 3 h)
 
 module _ {s : Settings} {payload old sent : List ℕ} {count : ℕ} {arrived buffer buffer′ : List ℕ} {answer : Received}
     (c : Passed s payload old sent count arrived buffer buffer′ answer) where
@@ -107,7 +102,6 @@ module _ {s : Settings} {payload old sent : List ℕ} {count : ℕ} {arrived buf
           unreadable = ap isUnreadable e ∙ unreadable ∙ sym f;
           repaired = λ _. ap isRepaired e ∙ repaired;
           nibble = λ _. ap nibbleOf e ∙ nibble;
-          seven = λ t. absurd (let z : _≡_ {A = ℕ} 0 1 = cc in omega arith);
         }
 
     -- with no changed bit it is taken, and with one repaired at 4/7 and 4/8
@@ -118,17 +112,16 @@ module _ {s : Settings} {payload old sent : List ℕ} {count : ℕ} {arrived buf
     repaired f r e = read-back (found-repaired s payload arrived sender i r e) f refl (sym (hurt-some s payload arrived i (omega arith))) refl
 
     -- with one at 4/5 and 4/6, and with two at 4/8, it can't be read
-    lost : foundAt (frameOf s) arrived i ≡ Unreadable → test i ≡ true → (blockFor s i .rate ≡ 3 → ⊥) → FoundAs test s payload arrived i
-    lost e f r =
+    lost : foundAt (frameOf s) arrived i ≡ Unreadable → test i ≡ true → FoundAs test s payload arrived i
+    lost e f =
         record {
           unreadable = ap isUnreadable e ∙ sym f;
           repaired = λ t. absurd (let z : _≡_ {A = ℕ} 0 1 = cc in omega arith);
           nibble = λ t. absurd (let z : _≡_ {A = ℕ} 0 1 = cc in omega arith);
-          seven = λ _. seven-at s i r;
         }
 
     pub lost-by-one : test i ≡ true → blockFor s i .rate ≤ 2 → changedBits s payload arrived i ≡ 1 → FoundAs test s payload arrived i
-    lost-by-one f r e = lost (found-unreadable s payload arrived sender i r e) f (λ q. omega arith)
+    lost-by-one f r e = lost (found-unreadable s payload arrived sender i r e) f
 
     pub lost-by-two : test i ≡ true → blockFor s i .rate ≡ 4 → changedBits s payload arrived i ≡ 2 → FoundAs test s payload arrived i
-    lost-by-two f r e = lost (found-double s payload arrived sender i r e) f (λ q. omega arith)
+    lost-by-two f r e = lost (found-double s payload arrived sender i r e) f

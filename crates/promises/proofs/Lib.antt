@@ -9,5 +9,7 @@ pub mod Demand2
 pub mod Demand3
 pub mod Determined
 pub mod Exported
+pub mod Perfect
+pub mod Refusals
 pub mod Small
 pub mod Examples

@@ -21,7 +21,7 @@ use Rattle.lora.specs.Code.{sentNibble}
 use Rattle.layout.proofs.LayoutLaws.{symbols-ge}
 use Rattle.lora.specs.Count.{frameOf}
 use Rattle.lora.specs.Head.{isOver, firstOver, unreadableInHeader, headerOf, headOf}
-use Rattle.lora.specs.Read.{overInRest, nibbleFound, byteFound, sumHolds, unreadableInData, refusalAt, repairsOf, acceptedOf, bodyOf, readOf}
+use Rattle.lora.specs.Read.{overInRest, nibbleFound, byteFound, sumHolds, unreadableInData, repairsOf, acceptedOf, bodyOf, readOf}
 use Rattle.lora.proofs.HeadLaws.{header-found, header-same}
 use Rattle.lora.specs.declared.Settings.{Settings}
 use Rattle.lora.specs.declared.Heading.the-variants.{Says, Refused as HeadRefused}
@@ -89,7 +89,7 @@ module _ (s : Settings) (payload arrived : List ℕ) (p : Sent s payload)
   -- read comes as far as the data codewords
   module _ (room : ℕ) (fits : length payload ≤ room) where
     body-is : 5 ≤ stop → bodyOf (frameOf s) arrived room (length payload)
-        ≡ check (leb (readWords s payload) stop) (Refused (refusalAt (frameOf s) stop) stop)
+        ≡ check (leb (readWords s payload) stop) (Refused 7 stop)
         (check (sumHolds (frameOf s) arrived (length payload)) (Refused 12 0) (Payload (acceptedOf (frameOf s) arrived (length payload))))
     unfolding bodyOf overInRest readWords
     body-is h =
@@ -103,7 +103,7 @@ module _ (s : Settings) (payload arrived : List ℕ) (p : Sent s payload)
     unfolding readOf
     read-refused-in-header h = rw (head-refused h)
 
-    pub read-refused : 5 ≤ stop → stop < readWords s payload → readOf (s .sf) (s .low) arrived room ≡ Refused (refusalAt (frameOf s) stop) stop
+    pub read-refused : 5 ≤ stop → stop < readWords s payload → readOf (s .sf) (s .low) arrived room ≡ Refused 7 stop
     unfolding readOf
     read-refused h l = rw (head-says h) (body-is h ∙ rw (lt-leb (readWords s payload) stop l))
 

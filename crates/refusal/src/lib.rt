@@ -12,9 +12,8 @@ pub const FEW_SYMBOLS: u8 = 5;
 pub const SYMBOL_OVER: u8 = 6;
 
 pub const UNREADABLE: u8 = 7;
-// Never given: each word of seven bits is a codeword or one bit from one.
-pub const UNREADABLE_4_7: u8 = 8;
 
+// 8 stays unused: docs/REFUSALS.md says why.
 pub const HEADER_CHECK: u8 = 9;
 
 pub const HEADER_BIT: u8 = 10;

@@ -46,8 +46,8 @@ impl Field {
         Field::PlaceHigh,
     ];
 
-    /// The values next to this field's range in a file of so many settings, and
-    /// the end of a byte; none for a field that is free.
+    /// The values next to this field's range in a file of so many settings, or
+    /// within its gap, and the end of a byte; none for a field that is free.
     pub fn outside(self, settings: usize) -> Vec<u8> {
         match self {
             Field::First => vec![0, 2, 255],
@@ -55,7 +55,7 @@ impl Field {
             Field::Low | Field::Flag => vec![2, 255],
             Field::FrameIndex | Field::RefusedIndex => vec![settings as u8, 255],
             Field::Cr => vec![0, 5, 255],
-            Field::Number => vec![3, 13, 255],
+            Field::Number => vec![3, 8, 13, 255],
             _ => Vec::new(),
         }
     }
@@ -133,7 +133,7 @@ fn frame(settings: usize, random: &mut Random) -> Frame {
 fn refused_frame(settings: usize, random: &mut Random) -> RefusedFrame {
     RefusedFrame {
         setting: random.below(settings) as u8,
-        number: 4 + random.below(9) as u8,
+        number: random.pick(&day::NUMBERS),
         place: two_bytes(random),
     }
 }

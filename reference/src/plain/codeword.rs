@@ -52,8 +52,34 @@ mod tests {
         }
     }
 
+    /// How many codewords are `distance` bits away from a word.
+    fn codewords_away(word: u8, cr: u8, distance: u32) -> usize {
+        (0..16)
+            .filter(|&nibble| (word ^ codeword(nibble, cr)).count_ones() == distance)
+            .count()
+    }
+
+    /// Document 02, Ask 5: a codeword, or one bit from exactly one.
+    fn near_one(word: u8, cr: u8) -> bool {
+        codewords_away(word, cr, 0) == 1 || codewords_away(word, cr, 1) == 1
+    }
+
     #[test]
-    fn every_word_at_4_7_can_be_read() {
+    fn every_word_at_4_7_is_a_codeword_or_one_bit_from_exactly_one() {
+        assert!((0..128).all(|word| near_one(word, 3)));
         assert!((0..128).all(|word| take(word, 3).is_some()));
+    }
+
+    /// At no other rate is that so: a word that is no codeword is one bit from
+    /// five at 4/5, from two at 4/6, and at 4/8 from one or from none.
+    #[test]
+    fn at_the_other_rates_it_is_not_so() {
+        for word in (0..32).filter(|&word| codewords_away(word, 1, 0) == 0) {
+            assert_eq!(codewords_away(word, 1, 1), 5);
+        }
+        for word in (0..64).filter(|&word| codewords_away(word, 2, 0) == 0) {
+            assert_eq!(codewords_away(word, 2, 1), 2);
+        }
+        assert_eq!((0..=255).filter(|&word| !near_one(word, 4)).count(), 112);
     }
 }

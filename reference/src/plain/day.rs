@@ -169,9 +169,12 @@ fn good_flag(flag: u8) -> bool {
     flag <= 1
 }
 
-/// Whether a refused frame's number can be entered.
+/// The numbers with which a refused frame can be entered: 4 to 12, of which Ask 5
+/// takes 8 out.
+pub const NUMBERS: [u8; 8] = [4, 5, 6, 7, 9, 10, 11, 12];
+
 fn good_number(number: u8) -> bool {
-    (4..=12).contains(&number)
+    NUMBERS.contains(&number)
 }
 
 /// The entries of a file, or why it is none: the first byte at fault decides.

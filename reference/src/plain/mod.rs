@@ -78,7 +78,7 @@ pub fn read(sf: u8, low: bool, symbols: &[u16], out: &mut [u8]) -> Result<Receiv
                 nibbles.push(taken.nibble);
                 repairs += usize::from(taken.repaired);
             }
-            None => return refuse(if rate == 3 { 8 } else { 7 }, HEADER_CODEWORDS + i),
+            None => return refuse(7, HEADER_CODEWORDS + i),
         }
     }
 

@@ -64,7 +64,7 @@ pub fn check(file: &[u8]) -> Result<Counts, Refusal> {
         let entry = &file[at..];
         let good = [
             |index, settings| index < settings,
-            |number, _| matches!(number, 4..=12),
+            |number, _| matches!(number, 4..=7 | 9..=12),
         ];
         if let Some(i) = first_bad(entry, good, settings) {
             return refuse(16, at + i);
@@ -125,7 +125,7 @@ pub fn write_rows(
         && in_payloads == payloads.len()
         && refused
             .iter()
-            .all(|&[setting, number, _]| named(setting) && matches!(number, 4..=12));
+            .all(|&[setting, number, _]| named(setting) && matches!(number, 4..=7 | 9..=12));
     if !good {
         return refuse(16, 0);
     }

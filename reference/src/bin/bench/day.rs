@@ -2,7 +2,7 @@
 
 use crate::measure::{best, ROUNDS};
 use reference::cases::days::{all_settings, file_of, Rows};
-use reference::plain::day::{Day, Frame, RefusedFrame};
+use reference::plain::day::{Day, Frame, RefusedFrame, NUMBERS};
 use reference::product::{self, DayRows};
 use reference::random::Random;
 use reference::types::{DayCheck, DayWrite};
@@ -72,7 +72,7 @@ impl Trial {
             refused: (0..refused)
                 .map(|i| RefusedFrame {
                     setting: setting(i),
-                    number: 4 + (i % 9) as u8,
+                    number: NUMBERS[i % NUMBERS.len()],
                     place: random.below(832) as u16,
                 })
                 .collect(),

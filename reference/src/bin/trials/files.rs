@@ -2,7 +2,7 @@
 //! each with what is known of it from how it was made.
 
 use reference::cases::days::{all_settings, day, fields, file_of, small, Field};
-use reference::plain::day::{Day, Frame, RefusedFrame, Setting};
+use reference::plain::day::{Day, Frame, RefusedFrame, Setting, NUMBERS};
 use reference::random::Random;
 use reference::show::show;
 use std::collections::BTreeMap;
@@ -306,7 +306,7 @@ pub fn every_end() -> Day {
         }
     }
     let mut refused = Vec::new();
-    for number in 4..=12 {
+    for number in NUMBERS {
         for place in [0, 255, 256, 65_535] {
             refused.push(RefusedFrame {
                 setting: index.next().unwrap(),
@@ -336,7 +336,7 @@ fn smallest() -> Day {
         }],
         refused: vec![RefusedFrame {
             setting: 0,
-            number: 8,
+            number: 7,
             place: 255,
         }],
     }
@@ -352,7 +352,7 @@ fn longest() -> Day {
     };
     let refused = |i: usize| RefusedFrame {
         setting: (i % 12) as u8,
-        number: 4 + (i % 9) as u8,
+        number: NUMBERS[i % NUMBERS.len()],
         place: 65_535 - i as u16,
     };
     Day {

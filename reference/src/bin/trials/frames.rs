@@ -7,9 +7,8 @@ use crate::tally::Outcome::{self, Refused, Repaired};
 use reference::cases::{self, Kind};
 use reference::random::Random;
 
-/// The refusals that the reading program can give, and repairs. 8 can't occur,
-/// since every word at 4/7 can be read; 4 neither, since the program's buffer is
-/// large enough.
+/// The refusals that the reading program can give, and repairs. 4 can't occur,
+/// since the program's buffer is large enough.
 pub const WANTED: [Outcome; 10] = [
     Refused(1),
     Refused(5),

@@ -1,4 +1,4 @@
--- The data codewords read; then 7 or 8, 12, or the payload.
+-- The data codewords read; then 7, 12, or the payload.
 use mathlib.Core.Path.{refl, sym, _∙_}
 use Prim.Native.Nat.{_+_, _≤_}
 use native.Mathlib.Omega.{arith}
@@ -66,14 +66,11 @@ read-data-requires c κs =
 add-end : tie.Need-add-end
 add-end c = omega (arith, few (c .before), start (c .before) .pre .1 .headed .valid .header-high)
 
-refusal-at-requires : tie.Need-refusal-at-requires
-refusal-at-requires c κs = search needs
-
 returns : tie.Need-returns
 returns c =
-    let r = c .before .before .before in
+    let r = c .before .before in
     record {
-      says = says-unreadable (run r) _ (omega (arith, c .before .if1 .taken, counted r .nibbles-of .ensures)) (c .refusal-at .ensures);
+      says = says-unreadable (run r) (omega (arith, c .if1 .taken, counted r .nibbles-of .ensures));
       held = search needs;
     }
 
@@ -122,7 +119,6 @@ decode-spec =
     sub-read-data
     read-data-requires
     add-end
-    refusal-at-requires
     returns
     payload-of-nibbles-requires
     sum-holds-requires
