@@ -7,7 +7,7 @@ use Prim.Native.Nat.{ℕ, _<_, _≤_}
 use native.Mathlib.Omega.{arith}
 use lib.Dec.{leb}
 use lib.ListN.{length}
-use borrow.Author.Tests.{leb-true, lt-leb, le-leb}
+use borrow.Author.Tests.{leb-true, leb-false, lt-leb, le-leb}
 use Rattle.bits.specs.Check.{check}
 use Rattle.layout.specs.Layout.{validSf, nibblesOf, symbolsOf}
 use Rattle.layout.specs.declared.Frame.{Frame}
@@ -25,23 +25,32 @@ pub record Accepts (sf : ℕ) (symbols : List ℕ) (room : ℕ) (a : Accepted) :
   pub head : headOf sf symbols ≡ Says (record { length = a .length; cr = a .cr; checked = a .checked })
   pub fits : a .length ≤ room
 
+-- what is answered behind the header, by the checks
+pub body-cases : (F : Frame) (symbols : List ℕ) (room len : ℕ) (P : Received → Type 0) → P (Refused 4 len) → P (Refused 5 (symbolsOf F len))
+    → P (Refused 6 (overInRest F symbols len)) → (unreadableInData F symbols len < nibblesOf F len → P (Refused 7 (unreadableInData F symbols len)))
+    → P (Refused 12 0) → (len ≤ room → P (Payload (acceptedOf F symbols len))) → P (bodyOf F symbols room len)
+unfolding bodyOf
+body-cases F symbols room len P four five six seven twelve payload =
+    by (leb len room) (leb (symbolsOf F len) (length symbols)) (leb (symbolsOf F len) (overInRest F symbols len))
+    (leb (nibblesOf F len) (unreadableInData F symbols len)) (sumHolds F symbols len) refl refl
+  where
+    by : (t u v w x : Bool) → leb len room ≡ t → leb (nibblesOf F len) (unreadableInData F symbols len) ≡ w
+        → P (check t (Refused 4 len) (check u (Refused 5 (symbolsOf F len)) (check v (Refused 6 (overInRest F symbols len))
+        (check w (Refused 7 (unreadableInData F symbols len)) (check x (Refused 12 0) (Payload (acceptedOf F symbols len)))))))
+    by true true true true true p q = payload (leb-true len room p)
+    by true true true true false p q = twelve
+    by true true true false x p q = seven (leb-false (nibblesOf F len) (unreadableInData F symbols len) q)
+    by true true false w x p q = six
+    by true false v w x p q = five
+    by false u v w x p q = four
+
 body-accepts : (F : Frame) (symbols : List ℕ) (room len : ℕ) (a : Accepted) → bodyOf F symbols room len ≡ Payload a
     → (acceptedOf F symbols len ≡ a) × (len ≤ room)
-unfolding bodyOf
-body-accepts F symbols room len a e =
-    keeps (leb len room) (leb (symbolsOf F len) (length symbols)) (leb (symbolsOf F len) (overInRest F symbols len))
-    (leb (nibblesOf F len) (unreadableInData F symbols len)) (sumHolds F symbols len) (acceptedOf F symbols len) refl e
+body-accepts F symbols room len a =
+    body-cases F symbols room len (λ r. r ≡ Payload a → (acceptedOf F symbols len ≡ a) × (len ≤ room)) other other other (λ l. other) other (λ fits e. (cc, fits))
   where
-    keeps : (t u v w x : Bool) (b : Accepted) → leb len room ≡ t
-        → check t (Refused 4 len) (check u (Refused 5 (symbolsOf F len)) (check v (Refused 6 (overInRest F symbols len))
-        (check w (Refused 7 (unreadableInData F symbols len)) (check x (Refused 12 0) (Payload b))))) ≡ Payload a
-        → (b ≡ a) × (len ≤ room)
-    keeps true true true true true b f g = (cc, leb-true len room f)
-    keeps true true true true false b f g = absurd (let z : _≡_ {A = ℕ} 0 1 = cc in omega arith)
-    keeps true true true false x b f g = absurd (let z : _≡_ {A = ℕ} 0 1 = cc in omega arith)
-    keeps true true false w x b f g = absurd (let z : _≡_ {A = ℕ} 0 1 = cc in omega arith)
-    keeps true false v w x b f g = absurd (let z : _≡_ {A = ℕ} 0 1 = cc in omega arith)
-    keeps false u v w x b f g = absurd (let z : _≡_ {A = ℕ} 0 1 = cc in omega arith)
+    other : {number place : ℕ} → Refused number place ≡ Payload a → (acceptedOf F symbols len ≡ a) × (len ≤ room)
+    other e = absurd (let z : _≡_ {A = ℕ} 0 1 = cc in omega arith)
 
 pub accepts : (sf : ℕ) (low : Bool) (symbols : List ℕ) (room : ℕ) (a : Accepted) → readOf sf low symbols room ≡ Payload a → Accepts sf symbols room a
 unfolding readOf acceptedOf

@@ -7,7 +7,7 @@ use Prim.Native.Nat.{ℕ, _+_, _<_, _≤_}
 use native.Mathlib.Omega.{arith}
 use lib.Dec.{leb}
 use lib.ListN.{length, getD}
-use borrow.Author.Tests.{lt-leb, le-leb}
+use borrow.Author.Tests.{lt-leb, le-leb, leb-false}
 use Rattle.bits.specs.Check.{check}
 use Rattle.bits.specs.Search.{howMany}
 use Rattle.bits.specs.Tab.{tab}
@@ -29,6 +29,7 @@ use Rattle.reading.specs.Stages.{gridOfSymbols, rowsFrom, Walk}
 use Rattle.reading.proofs.ReadingLaws.{found-in-first, walk-nibbles}
 use Rattle.reading.proofs.RowLaws.{row-in-first}
 use Rattle.lora.specs.Head.{firstOver, headerFound, unreadableInHeader, said, headerOf, headOf}
+use Rattle.lora.specs.declared.Heading.{Heading}
 use Rattle.lora.specs.declared.Heading.the-variants.{Says, Refused}
 use Rattle.lora.proofs.CountLaws.{sf-valid}
 
@@ -56,22 +57,31 @@ module _ (sf : ℕ) (symbols : List ℕ) where
           let same : k ≡ h = cc in
           says-range (nibbleAt (headerFound sf symbols)) h header-small (p ∙ ap HeaderSays same)
 
-  pub head-sound : (h : Header) → headOf sf symbols ≡ Says h → Heads sf h
+  -- what head answers, by its checks
+  pub head-cases : (P : Heading → Type 0) → P (Refused 1 0) → P (Refused 5 8) → P (Refused 6 (firstOver sf symbols 8 0))
+      → (7 ≤ sf → unreadableInHeader (headerFound sf symbols) < 5 → P (Refused 7 (unreadableInHeader (headerFound sf symbols))))
+      → (7 ≤ sf → sf ≤ 12 → P (said (verdictOf (tab 5 (nibbleAt (headerFound sf symbols)))))) → P (headOf sf symbols)
   unfolding headOf headerOf
-  head-sound h e = one (validSf sf) (leb 8 (length symbols)) (leb 8 (firstOver sf symbols 8 0)) (leb 5 (unreadableInHeader (headerFound sf symbols))) refl e
+  head-cases P one five six seven header =
+      by (validSf sf) (leb 8 (length symbols)) (leb 8 (firstOver sf symbols 8 0)) (leb 5 (unreadableInHeader (headerFound sf symbols))) refl refl
     where
-      one : (a b c d : Bool) → validSf sf ≡ a
-          → check a (Refused 1 0) (check b (Refused 5 8) (check c (Refused 6 (firstOver sf symbols 8 0))
-          (check d (Refused 7 (unreadableInHeader (headerFound sf symbols))) (said (verdictOf (tab 5 (nibbleAt (headerFound sf symbols)))))))) ≡ Says h
-          → Heads sf h
-      one true true true true p f =
-          let (low, high) = sf-valid sf p in
-          let (x, y, z) = said-range h f in
-          record { sf-low = low; sf-high = high; short = omega arith; cr-low = y; cr-high = z }
-      one true true true false p f = absurd (let z : _≡_ {A = ℕ} 0 1 = cc in omega arith)
-      one true true false d p f = absurd (let z : _≡_ {A = ℕ} 0 1 = cc in omega arith)
-      one true false c d p f = absurd (let z : _≡_ {A = ℕ} 0 1 = cc in omega arith)
-      one false b c d p f = absurd (let z : _≡_ {A = ℕ} 0 1 = cc in omega arith)
+      by : (a b c d : Bool) → validSf sf ≡ a → leb 5 (unreadableInHeader (headerFound sf symbols)) ≡ d
+          → P (check a (Refused 1 0) (check b (Refused 5 8) (check c (Refused 6 (firstOver sf symbols 8 0))
+          (check d (Refused 7 (unreadableInHeader (headerFound sf symbols))) (said (verdictOf (tab 5 (nibbleAt (headerFound sf symbols)))))))))
+      by true true true true p q = let (low, high) = sf-valid sf p in header low high
+      by true true true false p q = seven (sf-valid sf p .0) (leb-false 5 (unreadableInHeader (headerFound sf symbols)) q)
+      by true true false d p q = six
+      by true false c d p q = five
+      by false b c d p q = one
+
+  pub head-sound : (h : Header) → headOf sf symbols ≡ Says h → Heads sf h
+  head-sound h =
+      head-cases (λ r. r ≡ Says h → Heads sf h) other other other (λ low l. other) λ low high e.
+      let (x, y, z) = said-range h e in
+      record { sf-low = low; sf-high = high; short = omega arith; cr-low = y; cr-high = z }
+    where
+      other : {number place : ℕ} → Refused number place ≡ Says h → Heads sf h
+      other e = absurd (let z : _≡_ {A = ℕ} 0 1 = cc in omega arith)
 
 -- the header's codewords are the frame's first five, whatever the rest of the frame is like
 pub header-found : (F : Frame) (symbols : List ℕ) → Valid F → (i : ℕ) → i < 5 → foundAt F symbols i ≡ headerFound (F .sf) symbols i

@@ -9,6 +9,7 @@ pub mod Demand2
 pub mod Demand3
 pub mod Determined
 pub mod Exported
+pub mod Checks
 pub mod Perfect
 pub mod Refusals
 pub mod Small
