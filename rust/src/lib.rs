@@ -133,8 +133,8 @@ pub fn code(settings: &Settings, payload: &[u8], out: &mut [u16]) -> Result<usiz
 ///
 /// Those of [`head`]; then, in this order, [`RefusalKind::OutShort`],
 /// [`RefusalKind::FewSymbols`] for the whole frame, [`RefusalKind::SymbolOver`]
-/// over the rest, [`RefusalKind::Unreadable`] and [`RefusalKind::Unreadable47`]
-/// over data codewords in frame order, [`RefusalKind::Checksum`].
+/// over the rest, [`RefusalKind::Unreadable`] over data codewords in frame
+/// order, [`RefusalKind::Checksum`].
 pub fn read(sf: u8, low: bool, symbols: &[u16], out: &mut [u8]) -> Result<Received, Refusal> {
     let mut answer = [0; ffi::READ_CELLS];
     // SAFETY: as in `code`.

@@ -36,7 +36,8 @@ apart cr v w = howMany (λ j. not (eqb (bit j v) (bit j w))) (4 + cr)
 
 -- what a word of CR + 4 bits is read as: found in the code it is taken; at CR 3 and 4 a word one bit away from a codeword
 -- is repaired to it; else it can't be read. `away n` is the nibble whose codeword is n bits away, 16 where there is none;
--- that there is at most one is proved in proofs/CodeLaws.antt, `one-taken` and `one-repaired`
+-- that there is at most one is proved in proofs/CodeLaws.antt, `one-taken` and `one-repaired`, and that at CR 3 every word
+-- can be read in proofs/Perfect.antt, `always-read`
 unfoldable pub readAs : ℕ → ℕ → Found
 readAs cr w =
     let away : ℕ → ℕ = λ n. first (λ d. eqb (apart cr w (codeword cr d)) n) 16 0 in

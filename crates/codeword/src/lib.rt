@@ -18,7 +18,7 @@ pub enum Found {
 pub const WORDS: usize = 480;
 
 // What each of them is read as, CR 1 first, 16 words a line: 0d is the nibble d, taken; 1d is repaired to it; 20 can't be
-// read.
+// read, which is so of no word at CR 3.
 const READINGS: [u8; WORDS] = *b"\
     \x00\x20\x20\x03\x20\x05\x06\x20\x20\x09\x0a\x20\x0c\x20\x20\x0f\
     \x20\x01\x02\x20\x04\x20\x20\x07\x08\x20\x20\x0b\x20\x0d\x0e\x20\
