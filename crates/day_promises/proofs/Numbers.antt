@@ -46,7 +46,7 @@ none-eight e good i z h eight =
 pub never-eight : (bytes : List ℕ) (e : Day) → judged kind1 bytes ≡ taken e → (i : ℕ) (z : RefusedFrame) → i < length (e .refused) → getD (e .refused) i z .number ≡ 8 → ⊥
 never-eight bytes e t = none-eight e (is-the-file bytes e t .0)
 
--- Where it stands as a refused frame's number the file is refused with 16 at that byte.
+-- Where it stands as a refused frame's number, the reading of that entry, and so of the file, stops with 16 at that byte.
 pub eight-refused : (settings at : ℕ) (before : List RefusedFrame) (bytes : List ℕ) → at + 1 < length bytes → within 0 settings (getD bytes at 0) ≡ true
     → getD bytes (at + 1) 0 ≡ 8 → walk (refusedFrame settings .read before) bytes at ≡ stop 16 (at + 1)
 unfolding refusedFrame walk one _>>=_

@@ -190,6 +190,15 @@ pub in-first : (F : Frame) (i : ℕ) → i < F .sf - 2 → blockOfCodeword F i �
 unfolding blockOfCodeword rowsOfFirst
 in-first F i h = rw (lt-ltb i (F .sf - 2) h)
 
+-- the rate of block 0, and of the blocks behind it
+pub rate-first : (F : Frame) (i : ℕ) → i < F .sf - 2 → blockOf F (blockOfCodeword F i) .rate ≡ 4
+unfolding blockOf firstBlock
+rate-first F i h = rw (in-first F i h)
+
+pub rate-later : (F : Frame) (i : ℕ) → F .sf - 2 ≤ i → blockOf F (blockOfCodeword F i) .rate ≡ F .cr
+unfolding blockOf firstBlock blockOfCodeword rowsOfFirst
+rate-later F i h = rw (le-ltb i (F .sf - 2) h)
+
 -- codeword i stands in its block, and the block of a codeword that is read is one of the frame's
 module _ (F : Frame) (v : Valid F) where
   pub codeword-place : (i : ℕ) → let B : Block = blockOf F (blockOfCodeword F i) in (B .codeword ≤ i) × (i < B .codeword + B .rows)
@@ -217,12 +226,3 @@ module _ (F : Frame) (v : Valid F) where
           let (five, twelve) = rows-range F v in
           div-lt-iff-lt-mul {k = n} {x = i - rowsOfFirst (F .sf)} {y = L} (omega arith) .1
           (omega (arith, ltb-false i (rowsOfFirst (F .sf)) e, later-enough F nibbles v, mul-comm n L))
-
-  -- the rate of block 0, and of the blocks behind it
-  pub rate-first : (i : ℕ) → i < F .sf - 2 → blockOf F (blockOfCodeword F i) .rate ≡ 4
-  unfolding blockOf firstBlock
-  rate-first i h = rw (in-first F i h)
-
-  pub rate-later : (i : ℕ) → F .sf - 2 ≤ i → blockOf F (blockOfCodeword F i) .rate ≡ F .cr
-  unfolding blockOf firstBlock blockOfCodeword rowsOfFirst
-  rate-later i h = rw (le-ltb i (F .sf - 2) h)

@@ -3,7 +3,7 @@
 use mathlib.Core.Path.{_≡_, refl, sym, ap, ap₂, _∙_}
 use mathlib.Core.Bool.{Bool, true, false, cond}
 use mathlib.Core.List.{List}
-use Prim.Native.Nat.{ℕ, _+_, _-_, _<_, _≤_}
+use Prim.Native.Nat.{ℕ, _+_, _-_, _^_, _<_, _≤_}
 use native.Mathlib.Nat.{add-zero}
 use native.Mathlib.Omega.{arith}
 use lib.Dec.{leb, eqb}
@@ -13,7 +13,7 @@ use borrow.Author.Tests.{lt-leb, le-leb}
 use Rattle.bits.specs.Check.{check}
 use Rattle.bits.specs.Search.{first, howMany}
 use Rattle.bits.specs.Tab.{tab, over, blank}
-use Rattle.bits.proofs.Searches.{first-range, first-shift, howMany-add, howMany-cong, howMany-le}
+use Rattle.bits.proofs.Searches.{first-range, first-none, first-shift, howMany-add, howMany-cong, howMany-le}
 use Rattle.bits.proofs.Tabs.{length-blank, length-tab, getD-over, over-cong}
 use Rattle.checksum.specs.Checksum.{checksum}
 use Rattle.codeword.specs.Codeword.{isRepaired}
@@ -21,11 +21,12 @@ use Rattle.header.specs.declared.Header.{Header}
 use Rattle.layout.specs.Layout.{firstBlock, dataNibbles, nibblesOf, symbolsOf}
 use Rattle.layout.specs.Ranges.{Valid}
 use Rattle.layout.specs.declared.Frame.{Frame}
+use Rattle.layout.proofs.LayoutLaws.{symbols-ge}
 use Rattle.reading.specs.Found.{foundAt, unreadableAt, repairedAt}
 use Rattle.reading.specs.Payload.{payloadByte, sentChecksum}
 use Rattle.reading.specs.Stages.{gridOfSymbols, dataFound, listed, Walk}
 use Rattle.reading.proofs.ReadingLaws.{blank-small, nibble-data-lt, walk-nibbles, walk-small, payload-cong, checksum-cong}
-use Rattle.lora.specs.Head.{headerFound}
+use Rattle.lora.specs.Head.{isOver, firstOver, headerFound}
 use Rattle.lora.specs.Read.{overInRest, unreadableInData, nibbleFound, byteFound, sumHolds, repairsOf, acceptedOf, bodyOf, frameSaid}
 use Rattle.lora.specs.Stages.{sumAgrees, Headed, dataOf}
 use Rattle.lora.specs.declared.Accepted.{Accepted}
@@ -170,6 +171,16 @@ module _ (F : Frame) (symbols : List ℕ) (room len : ℕ) where
       pub says-data : total ≤ over → dataOf F symbols len ≡ bodyOf F symbols room len
       unfolding bodyOf dataOf
       says-data h = rw (← is, ← found, le-leb _ _ fits, le-leb _ _ there, le-leb _ _ h)
+
+-- of a frame that is there whole, each symbol below 2^SF, the checks from 7 on decide
+pub body-data : (F : Frame) (symbols : List ℕ) (room len : ℕ) → len ≤ room → symbolsOf F len ≤ length symbols
+    → ((t : ℕ) → t < symbolsOf F len → getD symbols t 0 < 2 ^ (F .sf)) → bodyOf F symbols room len ≡ dataOf F symbols len
+unfolding overInRest firstOver isOver
+body-data F symbols room len fits there below =
+    let total : ℕ = symbolsOf F len in
+    let eight : 8 ≤ total = symbols-ge F len in
+    let none = first-none (isOver (F .sf) symbols) (total - 8) 8 (λ t a b. lt-leb _ _ (below t (omega (arith, eight)))) in
+    sym (says-data F symbols room len refl fits there refl (omega (arith, eight, none)))
 
 -- a listed payload, copied out
 pub copied : {payload : List ℕ} (n : ℕ) (byte : ℕ → ℕ) (d old : List ℕ) → payload ≡ over n byte d → over n (listed payload) old ≡ over n byte old

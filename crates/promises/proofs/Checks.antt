@@ -14,9 +14,8 @@ use Rattle.codeword.specs.Codeword.{readAs, isUnreadable}
 use Rattle.codeword.proofs.Perfect.{always-read}
 use Rattle.header.specs.Header.{checksHold, zerosHold, rateHolds, headerIn, verdictOf}
 use Rattle.header.specs.declared.Verdict.the-variants.{Says as HeaderSays, Refused as HeaderRefused}
-use Rattle.layout.specs.Layout.{validSf, validCr, firstBlock, blockOf, dataNibbles, nibblesOf, symbolsOf}
+use Rattle.layout.specs.Layout.{validSf, validCr, dataNibbles, nibblesOf, symbolsOf}
 use Rattle.layout.specs.declared.Frame.{Frame}
-use Rattle.layout.proofs.LayoutLaws.{in-first}
 use Rattle.lora.specs.Airtime.{validBandwidth, lasting, airtimeOf}
 use Rattle.lora.specs.Code.{fitting, codeOf}
 use Rattle.lora.specs.Count.{frameOf, countOf}
@@ -34,7 +33,6 @@ use Rattle.lora.specs.declared.Received.the-variants.{Payload, Refused}
 use Rattle.lora.proofs.AnswerLaws.{body-cases}
 use Rattle.lora.proofs.HeadLaws.{head-cases}
 use Rattle.reading.specs.Found.{foundAt, unreadableAt, nibbleAt}
-use Rattle.promises.specs.Damage.{blockAt, blockFor}
 use Rattle.promises.specs.Refusals.{oneOf}
 
 -- an answer that is a refusal has one of these numbers
@@ -152,8 +150,3 @@ body-seven F symbols room len place =
     rw (← same) (first-found (unreadableAt (foundAt F symbols)) (dataNibbles len (F .checked)) (F .header) l))
     (λ e. absurd (let z : _≡_ {A = ℕ} 12 7 = cc in omega arith))
     (λ fits e. absurd (let z : _≡_ {A = ℕ} 0 1 = cc in omega arith))
-
--- whose rate is 4/8
-pub rate-in-block-0 : (s : Settings) (i : ℕ) → i < s .sf - 2 → blockFor s i .rate ≡ 4
-unfolding blockFor blockAt blockOf firstBlock
-rate-in-block-0 s i l = rw (in-first (frameOf s) i l)

@@ -83,8 +83,8 @@ module _ {s : Settings} {payload old sent : List ℕ} {count : ℕ} {arrived buf
   by-rate {A = A} i a b = at (leb (s .sf - 2) i) refl
     where
       at : (t : Bool) → leb (s .sf - 2) i ≡ t → A
-      at true e = let l = leb-true (s .sf - 2) i e in b l (rate-in-later s payload arrived sender i l)
-      at false e = let l = leb-false (s .sf - 2) i e in a l (rate-in-first s payload arrived sender i l)
+      at true e = let l = leb-true (s .sf - 2) i e in b l (rate-in-later s i l)
+      at false e = let l = leb-false (s .sf - 2) i e in a l (rate-in-first s i l)
 
   pub answered-by : (test : ℕ → Bool) → ((i : ℕ) → i < readWords s payload → FoundAs test s payload arrived i)
       → ReturnedUnless test s payload arrived count buffer buffer′ answer

@@ -120,11 +120,11 @@ module _ (s : Settings) (payload arrived : List ℕ) (p : Sent s payload) where
   found-double i h e =
       found-is i ∙ rw h (code.found-two (arrivedWord s arrived i) (sentNibble s payload i) (rw h at (arrived-lt i)) (sent-nibble-lt s payload p i) (rw h at e))
 
-  -- the rate of block 0 is 4/8, that of the others the frame's
-  pub rate-in-first : (i : ℕ) → i < s .sf - 2 → blockFor s i .rate ≡ 4
-  unfolding blockFor blockAt
-  rate-in-first i h = rate-first (frameOf s) (p .valid) i h
+-- the rate of block 0 is 4/8, that of the others the frame's
+pub rate-in-first : (s : Settings) (i : ℕ) → i < s .sf - 2 → blockFor s i .rate ≡ 4
+unfolding blockFor blockAt
+rate-in-first s i h = rate-first (frameOf s) i h
 
-  pub rate-in-later : (i : ℕ) → s .sf - 2 ≤ i → blockFor s i .rate ≡ s .cr
-  unfolding blockFor blockAt
-  rate-in-later i h = rate-later (frameOf s) (p .valid) i h
+pub rate-in-later : (s : Settings) (i : ℕ) → s .sf - 2 ≤ i → blockFor s i .rate ≡ s .cr
+unfolding blockFor blockAt
+rate-in-later s i h = rate-later (frameOf s) i h

@@ -21,8 +21,10 @@ use Rattle.lora.specs.Code.{sentNibble}
 use Rattle.layout.proofs.LayoutLaws.{symbols-ge}
 use Rattle.lora.specs.Count.{frameOf}
 use Rattle.lora.specs.Head.{isOver, firstOver, unreadableInHeader, headerOf, headOf}
-use Rattle.lora.specs.Read.{overInRest, nibbleFound, byteFound, sumHolds, unreadableInData, repairsOf, acceptedOf, bodyOf, readOf}
+use Rattle.lora.specs.Read.{nibbleFound, byteFound, sumHolds, unreadableInData, repairsOf, acceptedOf, bodyOf, readOf}
+use Rattle.lora.specs.Stages.{dataOf}
 use Rattle.lora.proofs.HeadLaws.{header-found, header-same}
+use Rattle.lora.proofs.ReadLaws.{body-data}
 use Rattle.lora.specs.declared.Settings.{Settings}
 use Rattle.lora.specs.declared.Heading.the-variants.{Says, Refused as HeadRefused}
 use Rattle.lora.specs.declared.Received.the-variants.{Payload, Refused}
@@ -55,16 +57,15 @@ module _ (s : Settings) (payload arrived : List ℕ) (p : Sent s payload)
   unfolding readWords nibblesOf
   five = omega arith
 
-  not-over : (n i : ℕ) → i + n ≤ symbolsOf (frameOf s) (length payload) → firstOver (s .sf) arrived n i ≡ i + n
+  none-over : firstOver (s .sf) arrived 8 0 ≡ 8
   unfolding firstOver isOver
-  not-over n i h = first-none _ n i (λ t a b. lt-leb _ _ (below t (omega arith)))
+  none-over = first-none _ 8 0 (λ t a b. lt-leb _ _ (below t (omega (arith, eight))))
 
   -- head comes as far as the header, whose codewords are the frame's first five
   head-is : headOf (s .sf) arrived ≡ headerOf (foundAt (frameOf s) arrived)
   unfolding headOf
   head-is =
-      let e : firstOver (s .sf) arrived 8 0 ≡ 8 = not-over 8 0 eight in
-      rw (sf-holds (s .sf) (p .valid .sf-low) (p .valid .sf-high), le-leb 8 (length arrived) (omega (arith, eight, enough)), e)
+      rw (sf-holds (s .sf) (p .valid .sf-low) (p .valid .sf-high), le-leb 8 (length arrived) (omega (arith, eight, enough)), none-over)
       (header-same _ _ (λ i l. sym (header-found (frameOf s) arrived (p .valid) i l)))
 
   pub head-refused : stop < 5 → headOf (s .sf) arrived ≡ HeadRefused 7 stop
@@ -91,12 +92,8 @@ module _ (s : Settings) (payload arrived : List ℕ) (p : Sent s payload)
     body-is : 5 ≤ stop → bodyOf (frameOf s) arrived room (length payload)
         ≡ check (leb (readWords s payload) stop) (Refused 7 stop)
         (check (sumHolds (frameOf s) arrived (length payload)) (Refused 12 0) (Payload (acceptedOf (frameOf s) arrived (length payload))))
-    unfolding bodyOf overInRest readWords
-    body-is h =
-        let total : ℕ = symbolsOf (frameOf s) (length payload) in
-        let whole : 8 + (total - 8) ≡ total = omega (arith, eight) in
-        let e : firstOver (s .sf) arrived (total - 8) 8 ≡ total = not-over (total - 8) 8 (omega (arith, eight)) ∙ whole in
-        rw (le-leb (length payload) room fits, le-leb total (length arrived) enough, e, le-leb total total (omega arith), data-first h)
+    unfolding dataOf readWords
+    body-is h = body-data (frameOf s) arrived room (length payload) fits enough below ∙ rw (data-first h)
 
     -- a codeword of the header, or of the data, can't be read
     pub read-refused-in-header : stop < 5 → readOf (s .sf) (s .low) arrived room ≡ Refused 7 stop

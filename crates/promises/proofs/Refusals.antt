@@ -3,19 +3,18 @@
 use mathlib.Core.Path.{_≡_, refl, sym, _∙_}
 use mathlib.Core.Bool.{Bool, true, false, true≢false}
 use mathlib.Core.List.{List, [], _∷_}
-use Prim.Native.Nat.{ℕ, _+_, _-_, _≤_, _<_}
+use Prim.Native.Nat.{ℕ, _-_, _<_}
 use native.Mathlib.Omega.{arith}
 use lib.ListN.{length}
-use borrow.Author.Tests.{le-leb, lt-leb}
-use Rattle.bits.proofs.Searches.{first-none}
-use Rattle.layout.specs.Layout.{blockOf, blockOfCodeword, nibblesOf, symbolsOf}
+use borrow.Author.Tests.{lt-leb}
+use Rattle.layout.specs.Layout.{blockOf, blockOfCodeword, nibblesOf}
 use Rattle.layout.specs.declared.Block.{Block}
-use Rattle.layout.proofs.LayoutLaws.{symbols-ge}
 use Rattle.lora.specs.Airtime.{airtimeOf}
 use Rattle.lora.specs.Code.{Coding}
 use Rattle.lora.specs.Count.{frameOf, countOf}
-use Rattle.lora.specs.Head.{isOver, firstOver, headOf}
-use Rattle.lora.specs.Read.{overInRest, unreadableInData, bodyOf, onward, readOf, Reading}
+use Rattle.lora.specs.Head.{headOf}
+use Rattle.lora.specs.Read.{unreadableInData, onward, readOf, Reading}
+use Rattle.lora.specs.Stages.{dataOf}
 use Rattle.lora.specs.declared.Settings.{Settings}
 use Rattle.lora.specs.declared.Counted.the-variants.{Refused as CountRefused}
 use Rattle.lora.specs.declared.Lasting.the-variants.{Refused as TimeRefused}
@@ -23,11 +22,13 @@ use Rattle.lora.specs.declared.Heading.{Heading}
 use Rattle.lora.specs.declared.Heading.the-variants.{Says, Refused as HeadRefused}
 use Rattle.lora.specs.declared.Received.{Received}
 use Rattle.lora.specs.declared.Received.the-variants.{Refused}
+use Rattle.lora.proofs.ReadLaws.{body-data}
 use Rattle.reading.specs.Found.{wordInBlock, foundInBlock, foundAt, unreadableAt}
 use Rattle.reading.proofs.ReadingLaws.{word-lt}
 use Rattle.promises.specs.Damage.{blockAt, blockFor}
 use Rattle.promises.specs.Refusals.{oneOf, Said, Arrived}
-use Rattle.promises.proofs.Checks.{count-among, airtime-among, code-among, head-among, read-among, found-at, head-seven, body-seven, rate-in-block-0}
+use Rattle.promises.proofs.Checks.{count-among, airtime-among, code-among, head-among, read-among, found-at, head-seven, body-seven}
+use Rattle.promises.proofs.Near.{rate-in-first}
 
 -- An operation refuses with these numbers and with no other, in the order of its checks: 8 is never given.
 pub count-gives : (s : Settings) (len : ℕ) {number place : ℕ} → countOf s len ≡ CountRefused number place → oneOf (1 ∷ 2 ∷ 3 ∷ []) number ≡ true
@@ -51,14 +52,9 @@ read-gives {sf} {low} {symbols} {old} c = rw (← c .answer) at (read-among sf l
 pub only-seven : {s : Settings} {len : ℕ} {symbols old new : List ℕ} {answer : Received} → Arrived s len symbols old
     → Reading (s .sf) (s .low) symbols old new answer → unreadableInData (frameOf s) symbols len < nibblesOf (frameOf s) len
     → answer ≡ Refused 7 (unreadableInData (frameOf s) symbols len)
-unfolding readOf bodyOf overInRest firstOver isOver
+unfolding readOf dataOf
 only-seven {s} {len} {symbols} {old} a c l =
-    let total : ℕ = symbolsOf (frameOf s) len in
-    let eight : 8 ≤ total = symbols-ge (frameOf s) len in
-    let none = first-none _ (total - 8) 8 (λ t low high. lt-leb _ _ (a .below t (omega (arith, eight)))) in
-    let over : 8 + (total - 8) ≡ total = omega (arith, eight) in
-    c .answer
-    ∙ rw (a .head, le-leb _ _ (a .room), le-leb _ _ (a .enough), none ∙ over, le-leb total total (omega arith), lt-leb _ _ l)
+    c .answer ∙ rw (a .head) (body-data (frameOf s) symbols (length old) len (a .room) (a .enough) (a .below) ∙ rw (lt-leb _ _ l))
 
 -- At 4/7 every codeword can be read, whatever arrived.
 pub always-readable : (s : Settings) (symbols : List ℕ) (i : ℕ) → blockFor s i .rate ≡ 3 → unreadableAt (foundAt (frameOf s) symbols) i ≡ false
@@ -77,7 +73,7 @@ never-at-4/7 {s} {symbols} {old} {new} {place} settings c e = by (headOf (s .sf)
     by (HeadRefused number p) f g =
         let seven : number ≡ 7 = cc in
         let same : p ≡ place = cc in
-        omega (arith, e, rate-in-block-0 s place (head-seven (s .sf) symbols place (rw (seven, same) at f)))
+        omega (arith, e, rate-in-first s place (head-seven (s .sf) symbols place (rw (seven, same) at f)))
     by (Says h) f g =
         let (cr, flag) = settings h f in
         let bad = body-seven (frameOf s) symbols (length old) (h .length) place (rw (cr, flag) at g) in
