@@ -1,12 +1,12 @@
-/* Reads a frame with one symbol spoiled and prints the payload and how many codewords were repaired; then the same frame
- * cut short, which is refused. */
+/* Reads a frame with one symbol spoiled and the first just below its mark, and prints the payload, how many codewords were
+ * repaired and the drift; then the same frame cut short, which is refused. */
 #include <inttypes.h>
 #include <stdio.h>
 
 #include "lora.h"
 
-/* The payload 6F0074A6F401 at SF 9, CR 4 (4/8), checksum on. The tenth symbol was sent as 497. */
-static const uint16_t symbols[] = {412, 4,   480, 460, 224, 112, 28, 112, 60,  100, 279, 381,
+/* The payload 6F0074A6F401 at SF 9, CR 4 (4/8), checksum on. The first symbol was sent as 412, the tenth as 497. */
+static const uint16_t symbols[] = {411, 4,   480, 460, 224, 112, 28, 112, 60,  100, 279, 381,
                                    120, 349, 416, 464, 0,   496, 263, 382, 127, 159, 160, 95};
 enum { SYMBOLS = sizeof symbols / sizeof symbols[0] };
 
@@ -24,8 +24,8 @@ static uint8_t read_and_print(size_t count)
     printf("payload ");
     for (i = 0; i < answer[0]; i++)
         printf("%02X", payload[i]);
-    printf(", CR %" PRIu64 ", checksum %" PRIu64 ", symbols used %" PRIu64 ", repairs %" PRIu64 "\n",
-           answer[1], answer[2], answer[3], answer[4]);
+    printf(", CR %" PRIu64 ", checksum %" PRIu64 ", symbols used %" PRIu64 ", repairs %" PRIu64 ", drift %" PRId64 "\n",
+           answer[1], answer[2], answer[3], answer[4], (int64_t)answer[5]);
     return LORA_OK;
 }
 

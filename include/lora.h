@@ -2,7 +2,9 @@
  * the symbol count, the time on air. Explicit header only. And the day's file: what was received in a day, written, checked
  * and walked. Link with liblora_c.a (x86-64 Linux).
  *
- * Symbol numbers count from 0 at the preamble's chirp; a station that counts from 1 subtracts first.
+ * Symbol numbers count from 0 at the preamble's chirp; a station that counts from 1 subtracts first. In block 0, and at low
+ * rate in every block, only multiples of 4 are sent, the marks. There a symbol that arrives 2 below to 1 above a mark,
+ * round the circle of 2^SF numbers, is read as the mark.
  *
  * A list is lent as a pointer and its number of elements. The lists of one call do not overlap, and a pointer is aligned.
  * Where the number is 0 the pointer may be NULL: nothing is read or written through it. A flag (low, checksum) is 0 for
@@ -59,10 +61,10 @@
 #include <stddef.h>
 #include <stdint.h>
 
-#define LORA_VERSION_MAJOR 2
+#define LORA_VERSION_MAJOR 3
 #define LORA_VERSION_MINOR 0
 #define LORA_VERSION_PATCH 0
-#define LORA_VERSION "2.0.0"
+#define LORA_VERSION "3.0.0"
 
 #ifdef __cplusplus
 extern "C" {
@@ -120,7 +122,7 @@ enum {
     LORA_AIRTIME_CELLS = 1,
     LORA_CODE_CELLS = 1,
     LORA_HEAD_CELLS = 3,
-    LORA_READ_CELLS = 5,
+    LORA_READ_CELLS = 6,
     LORA_DAY_WRITE_CELLS = 1,
     LORA_DAY_CHECK_CELLS = 3,
     LORA_DAY_STEP_CELLS = 11
@@ -157,10 +159,12 @@ uint8_t lora_code(uint8_t sf, uint8_t low, uint8_t cr, uint8_t checksum, const u
 uint8_t lora_head(uint8_t sf, const uint16_t *symbols, size_t symbols_len, uint64_t *answer, size_t answer_len);
 
 /* read: SF, low-rate flag and symbols; fills the lent byte buffer `out` from out[0] on with the payload; answers length,
- * CR, checksum flag, symbols used, codewords repaired. Symbols after the frame's own are ignored.
+ * CR, checksum flag, symbols used, codewords repaired, and the first symbol's drift: its signed distance from its mark,
+ * number less mark round the circle, -2 to +1. Symbols after the frame's own are ignored.
  * Checks what head checks; then 4 for the payload; 5 for the whole frame; 6 over the rest; 7 over data codewords in frame
  * order; 12. After a refusal `out` is as it was.
- * `answer` needs 5 cells: [0] length, [1] CR, [2] checksum flag (0 or 1), [3] symbols used, [4] codewords repaired. */
+ * `answer` needs 6 cells: [0] length, [1] CR, [2] checksum flag (0 or 1), [3] symbols used, [4] codewords repaired,
+ * [5] drift. A cell has no sign, so -1 and -2 come back as 2^64 - 1 and 2^64 - 2: (int64_t)answer[5] is the drift. */
 uint8_t lora_read(uint8_t sf, uint8_t low, const uint16_t *symbols, size_t symbols_len, uint8_t *out, size_t out_len,
                   uint64_t *answer, size_t answer_len);
 

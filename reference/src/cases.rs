@@ -1,4 +1,4 @@
-//! Frames to try: clean, damaged, foreign and made up.
+//! Frames to try: clean, drifted, damaged, foreign and made up.
 
 pub mod days;
 
@@ -31,10 +31,14 @@ pub fn payload(random: &mut Random) -> Vec<u8> {
     random.bytes(length)
 }
 
+/// The steps from a symbol at the four-wide spacing that leave its value.
+const WITHIN: [i8; 4] = [-2, -1, 0, 1];
+
 /// What is done to a frame.
 #[derive(Clone, Copy, Debug)]
 pub enum Kind {
     Clean,
+    Drifted,
     ChangedSymbols,
     ChangedHeader,
     ChangedData,
@@ -47,8 +51,10 @@ pub enum Kind {
 }
 
 /// The kinds, those with more to find more often.
-pub const KINDS: [Kind; 14] = [
+pub const KINDS: [Kind; 16] = [
     Kind::Clean,
+    Kind::Drifted,
+    Kind::Drifted,
     Kind::ChangedSymbols,
     Kind::ChangedSymbols,
     Kind::ChangedSymbols,
@@ -99,6 +105,7 @@ pub fn frame(kind: Kind, settings: &Settings, random: &mut Random) -> Frame {
     let mut filler = || if foreign { random.byte() } else { 0 };
     let mut symbols = plain::frame(settings, head, &data, &mut filler);
     match kind {
+        Kind::Drifted => drift(&mut symbols, settings, random),
         Kind::ChangedSymbols => change_symbols(&mut symbols, settings, random),
         Kind::Cut => symbols.truncate(random.below(symbols.len())),
         Kind::OutOfRange => put_out_of_range(&mut symbols, sf, random),
@@ -121,6 +128,11 @@ pub fn frame(kind: Kind, settings: &Settings, random: &mut Random) -> Frame {
         symbols,
         length,
     }
+}
+
+/// The number so many steps on from a symbol, round the circle of 2^SF numbers.
+pub fn moved(symbol: u16, steps: i8, sf: u8) -> u16 {
+    (i32::from(symbol) + i32::from(steps)).rem_euclid(1 << sf) as u16
 }
 
 /// Any symbol number of this spreading factor.
@@ -152,6 +164,22 @@ fn change_one(nibbles: &mut [u8], random: &mut Random) {
     }
 }
 
+/// Moves the symbols at the four-wide spacing by -2 to +1 each, or all by the same
+/// steps: their values stay. At times one goes a step beyond.
+fn drift(symbols: &mut [u16], settings: &Settings, random: &mut Random) {
+    let four_wide = if settings.low { symbols.len() } else { 8 };
+    let same = random.flag().then(|| random.pick(&WITHIN));
+    let beyond = random.flag().then(|| random.below(four_wide));
+    for (i, symbol) in symbols[..four_wide].iter_mut().enumerate() {
+        let steps = if beyond == Some(i) {
+            random.pick(&[-3, 2])
+        } else {
+            same.unwrap_or_else(|| random.pick(&WITHIN))
+        };
+        *symbol = moved(*symbol, steps, settings.sf);
+    }
+}
+
 /// Changes at most 0 to 3 symbols in each block.
 fn change_symbols(symbols: &mut [u16], settings: &Settings, random: &mut Random) {
     let most = random.pick(&[0, 1, 1, 1, 2, 3]);
@@ -174,7 +202,7 @@ fn changed(symbol: u16, sf: u8, random: &mut Random) -> u16 {
     let last = (1 << sf) - 1;
     match random.below(4) {
         // Leaves the value alone where symbols are four apart.
-        0 => symbol ^ (1 + random.below(3) as u16),
+        0 => moved(symbol, random.pick(&[-2, -1, 1]), sf),
         1 => symbol.wrapping_add(random.pick(&[1, 4])) & last,
         2 => symbol.wrapping_sub(random.pick(&[1, 4])) & last,
         _ => any_symbol(sf, random),

@@ -15,6 +15,7 @@ pub fn read(sf: u8, low: bool, symbols: &[u16], out: &mut [u8]) -> Result<Receiv
         header: header(received.header),
         symbols: received.symbols,
         repairs: received.repairs,
+        drift: received.drift,
     })
 }
 

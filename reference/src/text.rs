@@ -12,6 +12,8 @@ pub fn answer_line(text: &[u8]) -> Vec<u8> {
             header,
             symbols,
             repairs,
+            // The line keeps its fields (document 02, Ask 2).
+            drift: _,
         }) => {
             let flag = u8::from(header.checksum);
             let hex = hex(&payload[..header.length]);

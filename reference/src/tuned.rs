@@ -143,6 +143,8 @@ pub fn read(sf: u8, low: bool, symbols: &[u16], out: &mut [u8]) -> Result<Receiv
         header,
         symbols: shape.symbols,
         repairs,
+        // Two more than the drift is what the rounding down leaves.
+        drift: ((symbols[0] + 2) & 3) as i8 - 2,
     })
 }
 
@@ -206,11 +208,14 @@ fn code_block<const WIDTH: usize>(nibbles: &[u8], rows: usize, shift: u32, out: 
 /// The columns of one block.
 fn lanes_of<const WIDTH: usize>(symbols: &[u16], rows: usize, shift: u32) -> u128 {
     let mut lanes = 0;
+    let all = (1 << rows) - 1;
+    // Half the spacing, so that a symbol just below its mark is taken to it.
+    let half = (1 << shift) >> 1;
     for (j, symbol) in symbols[..WIDTH].iter().enumerate() {
-        let value = u32::from(symbol >> shift);
+        let value = (u32::from(*symbol) + half) >> shift & all;
         let word = value ^ value >> 1;
         let turn = if j >= rows { j - rows } else { j };
-        let lane = (word << turn | word >> (rows - turn)) & ((1 << rows) - 1);
+        let lane = (word << turn | word >> (rows - turn)) & all;
         lanes |= u128::from(lane) << (16 * j);
     }
     lanes

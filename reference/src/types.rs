@@ -39,6 +39,9 @@ pub struct Received {
     pub symbols: usize,
     /// Codewords repaired, header included, fillers not.
     pub repairs: usize,
+    /// The first symbol's drift, -2 to +1: its signed distance from its mark,
+    /// round the circle of 2^SF numbers.
+    pub drift: i8,
 }
 
 /// Shorthand for a refusal as an outcome.

@@ -1,8 +1,9 @@
-//! The examples of document 01, row by row, and those of the two programs.
+//! The examples of document 01, row by row, as document 02 changes them, and those
+//! of the two programs.
 
 use reference::plain::{self, block, bytes, codeword::codeword, header};
-use reference::types::{Header, Received, Refusal, Settings};
-use reference::{text, wish};
+use reference::types::{Header, Read, Received, Refusal, Settings};
+use reference::{text, tuned, wish};
 
 const EMPTY: Settings = Settings {
     sf: 7,
@@ -47,6 +48,14 @@ fn coded_line(wish: &str) -> String {
 
 fn repairs_with_first(symbol: u16) -> usize {
     read_with_first(&[symbol]).unwrap().repairs
+}
+
+/// The drift of an empty frame whose first symbol arrives as this number. One
+/// symbol of block 0 can be any number: what it spoils is repaired.
+fn drift_with_first(read: Read, sf: u8, symbol: u16) -> i8 {
+    let mut frame = coded(&Settings { sf, ..EMPTY }, &[]);
+    frame[0] = symbol;
+    read(sf, false, &frame, &mut []).unwrap().drift
 }
 
 #[test]
@@ -107,8 +116,9 @@ fn frames() {
 #[test]
 fn damaged_frames() {
     assert_eq!(repairs_with_first(0), 1);
-    assert_eq!(repairs_with_first(123), 1);
-    assert_eq!(repairs_with_first(127), 0);
+    // Document 02, Ask 2: 123 is just below its mark 124, and 127 below 0.
+    assert_eq!(repairs_with_first(123), 0);
+    assert_eq!(repairs_with_first(127), 1);
     assert_eq!(
         read_with_first(&[0, 0]),
         Err(Refusal {
@@ -131,6 +141,68 @@ fn damaged_frames() {
             place: 8
         })
     );
+}
+
+/// Document 02, Ask 2: at the start of the range, across a mark in its middle,
+/// and at its end, where the mark is 0 again.
+#[test]
+fn drifts() {
+    let sf_7 = [
+        (0, 0),
+        (1, 1),
+        (2, -2),
+        (3, -1),
+        (4, 0),
+        (62, -2),
+        (63, -1),
+        (64, 0),
+        (65, 1),
+        (122, -2),
+        (123, -1),
+        (124, 0),
+        (125, 1),
+        (126, -2),
+        (127, -1),
+    ];
+    let sf_12 = [
+        (0, 0),
+        (1, 1),
+        (2, -2),
+        (3, -1),
+        (4, 0),
+        (2046, -2),
+        (2047, -1),
+        (2048, 0),
+        (2049, 1),
+        (4090, -2),
+        (4091, -1),
+        (4092, 0),
+        (4093, 1),
+        (4094, -2),
+        (4095, -1),
+    ];
+    for (sf, rows) in [(7, sf_7), (12, sf_12)] {
+        for (symbol, drift) in rows {
+            for read in [plain::read, tuned::read] {
+                assert_eq!(
+                    drift_with_first(read, sf, symbol),
+                    drift,
+                    "SF {sf}, {symbol}"
+                );
+            }
+        }
+    }
+}
+
+/// Head reads the first symbols as read does.
+#[test]
+fn head_below_and_above_the_marks() {
+    let sent = plain::head(7, &EMPTY_FRAME);
+    let below = [122, 46, 26, 126, 54, 26, 10, 126];
+    let above = [125, 49, 29, 1, 57, 29, 13, 1];
+    for arrived in [below, above] {
+        assert_eq!(plain::head(7, &arrived), sent);
+    }
 }
 
 #[test]

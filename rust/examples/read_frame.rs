@@ -1,4 +1,5 @@
-//! Codes a frame, spoils one of its symbols as noise may, and reads it.
+//! Codes a frame, spoils one of its symbols as noise may, lets another slip off its
+//! mark, and reads it.
 
 use chyvandra::{code, read, Refusal, Settings, MOST_BYTES, MOST_SYMBOLS};
 
@@ -17,11 +18,16 @@ fn main() -> Result<(), Refusal> {
     // The tenth symbol is in the second block: the first one has eight. It
     // carries one bit of each codeword of its block, so several may need repair.
     symbols[9] ^= 0b101;
+    // In the first block one step below what was sent is read as what was sent.
+    symbols[0] -= 1;
 
     let mut payload = [0; MOST_BYTES];
     let received = read(settings.sf, settings.low, &symbols[..count], &mut payload)?;
     let payload = &payload[..received.header.length];
-    println!("read {payload:02X?}, repairs {}", received.repairs);
+    println!(
+        "read {payload:02X?}, repairs {}, drift {}",
+        received.repairs, received.drift
+    );
 
     // A frame that is cut short is refused, and the refusal says what is missing.
     match read(settings.sf, settings.low, &symbols[..12], &mut [0; 6]) {

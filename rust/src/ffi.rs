@@ -26,8 +26,8 @@ pub const NUMBER_CELLS: usize = 1;
 /// Cells of `answer` that head needs: length, CR, checksum flag.
 pub const HEAD_CELLS: usize = 3;
 /// Cells of `answer` that read needs: length, CR, checksum flag, symbols used,
-/// codewords repaired.
-pub const READ_CELLS: usize = 5;
+/// codewords repaired, drift.
+pub const READ_CELLS: usize = 6;
 /// Cells of `answer` that day_write needs: the file's length.
 pub const DAY_WRITE_CELLS: usize = 1;
 /// Cells of `answer` that day_check needs: settings, frames, refused frames.
@@ -88,8 +88,10 @@ extern "C" {
     ) -> u8;
 
     /// Writes the payload from `out[0]` on and answers length, CR, checksum flag
-    /// (0 or 1), symbols used and codewords repaired in `answer[0]` to
-    /// `answer[4]`. Checks what head checks, then 4, 5, 6, 7, 12.
+    /// (0 or 1), symbols used, codewords repaired and the first symbol's drift in
+    /// `answer[0]` to `answer[5]`. The drift, -2 to +1, is `answer[5] as i64`: a
+    /// negative number comes back as 2^64 less its size. Checks what head checks,
+    /// then 4, 5, 6, 7, 12.
     pub fn lora_read(
         sf: u8,
         low: u8,

@@ -14,7 +14,9 @@
 //! other.
 //!
 //! Symbol numbers count from 0 at the preamble's chirp; a station that counts
-//! from 1 subtracts first.
+//! from 1 subtracts first. In block 0, and at low rate in every block, only
+//! multiples of 4 are sent, the marks. There a symbol that arrives 2 below to 1
+//! above a mark, round the circle of 2^SF numbers, is read as the mark.
 //!
 //! To build it, set `LORA_LIB_DIR` to the whole path of the folder that has
 //! `liblora_c.a` (x86-64 Linux).
@@ -30,7 +32,7 @@
 //! let mut payload = [0; MOST_BYTES];
 //! let received = read(9, false, &symbols[..count], &mut payload)?;
 //! assert_eq!(&payload[..received.header.length], b"open");
-//! assert_eq!(received.repairs, 0);
+//! assert_eq!((received.repairs, received.drift), (0, 0));
 //! # Ok(())
 //! # }
 //! ```
@@ -87,6 +89,9 @@ pub struct Received {
     pub symbols: usize,
     /// Codewords repaired, those of the header among them, fillers not.
     pub repairs: usize,
+    /// The first symbol's drift, -2 to +1: its signed distance, round the circle
+    /// of 2^SF numbers, from its mark, the multiple of 4 that it was read as.
+    pub drift: i8,
 }
 
 /// Codes `payload`: writes its symbols to `out`, from `out[0]` on, and answers
@@ -119,8 +124,8 @@ pub fn code(settings: &Settings, payload: &[u8], out: &mut [u16]) -> Result<usiz
 
 /// Reads the frame at the front of `symbols`: writes its payload to `out`, from
 /// `out[0]` on, and answers what the header says, how many symbols were the
-/// frame's own and how many codewords were repaired. Symbols after the frame's
-/// own are ignored.
+/// frame's own, how many codewords were repaired and how far the first symbol was
+/// from its mark. Symbols after the frame's own are ignored.
 ///
 /// What accepted means: read with the sender's own SF and low-rate setting,
 /// which the frame does not carry, the symbols are a frame by the rules. It is
@@ -150,10 +155,12 @@ pub fn read(sf: u8, low: bool, symbols: &[u16], out: &mut [u8]) -> Result<Receiv
             answer.len(),
         )
     };
-    accepted(number, answer).map(|[length, cr, flag, used, repairs]| Received {
+    accepted(number, answer).map(|[length, cr, flag, used, repairs, drift]| Received {
         header: header([length, cr, flag]),
         symbols: used as usize,
         repairs: repairs as usize,
+        // -2 to +1, the sign as in an `i64`: its last byte is the same number.
+        drift: drift as i8,
     })
 }
 

@@ -3,10 +3,10 @@
 use mathlib.Core.Path.{_≡_, refl, sym, ap}
 use mathlib.Core.Bool.{Bool, true, false, cond}
 use Prim.Native.Nat.{ℕ, zero, suc, _+_, _*_, _/_, _%_, _^_, _<_}
-use native.Mathlib.Nat.{mod-lt, div-one, div-add-mod', pow-suc, zero-lt-suc}
+use native.Mathlib.Nat.{mod-lt, mod-eq-of-lt, div-one, div-add-mod', pow-suc, zero-lt-suc}
 use native.Mathlib.Omega.{arith}
 use lib.Arith.{lt-one, bin-ind}
-use lib.Pow.{pow-add}
+use lib.Pow.{pow-add, pow-pos}
 use lib.Count.{ones, ones-step}
 use Rattle.bits.specs.Bit.{number}
 use Rattle.bits.proofs.Bits.{half-pow, number-lt}
@@ -69,10 +69,17 @@ unfolding valueOfWord
 value-lt n w = number-lt n _ (λ k. mod-lt (ones (w / 2 ^ k)) (zero-lt-suc 1))
 
 -- a value comes back from its symbol number
-pub value-of-number-of-value : (wide : Bool) (v : ℕ) → valueOfNumber wide (numberOfValue wide v) ≡ v
+pub value-of-number-of-value : (n : ℕ) (wide : Bool) (v : ℕ) → v < 2 ^ n → valueOfNumber n wide (numberOfValue wide v) ≡ v
 unfolding valueOfNumber numberOfValue
-value-of-number-of-value false v = refl
-value-of-number-of-value true v = omega arith
+value-of-number-of-value n false v h = refl
+value-of-number-of-value n true v h =
+    let e : (4 * v + 2) / 4 ≡ v = omega arith in
+    rw e (mod-eq-of-lt h)
+
+-- a value that is read at the four-wide spacing has n bits
+pub value-of-number-lt : (n s : ℕ) → valueOfNumber n true s < 2 ^ n
+unfolding valueOfNumber
+value-of-number-lt n s = mod-lt ((s + 2) / 4) (pow-pos n)
 
 -- a symbol number has n bits, at the four-wide spacing two more
 pub number-of-value-lt : (n : ℕ) (wide : Bool) (v : ℕ) → v < 2 ^ n → numberOfValue wide v < 2 ^ cond wide (n + 2) n

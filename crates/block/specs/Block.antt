@@ -20,10 +20,10 @@ symbolOfCodewords n wide c j = numberOfValue wide (valueOfWord n (wordOfCodeword
 unfoldable pub placeInWord : ℕ → ℕ → ℕ → ℕ
 placeInWord n i j = first (λ k. eqb ((j + k) % n) i) n 0
 
--- the symbol word that a number is read as
-unfoldable pub wordOfNumber : Bool → ℕ → ℕ
-wordOfNumber wide s = wordOfValue (valueOfNumber wide s)
+-- the symbol word, of n bits, that a number is read as
+unfoldable pub wordOfNumber : ℕ → Bool → ℕ → ℕ
+wordOfNumber n wide s = wordOfValue (valueOfNumber n wide s)
 
 -- codeword i, of so many bits, as it is received in the symbols s: its bit j comes from symbol j alone
 unfoldable pub received : ℕ → ℕ → Bool → (ℕ → ℕ) → ℕ → ℕ
-received n columns wide s i = number columns (λ j. bit (placeInWord n i j) (wordOfNumber wide (s j)))
+received n columns wide s i = number columns (λ j. bit (placeInWord n i j) (wordOfNumber n wide (s j)))

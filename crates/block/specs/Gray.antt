@@ -1,7 +1,7 @@
--- Document 01, "Blocks, the diagonal and the Gray step": from a word to a symbol number, and back.
+-- Document 01, "Blocks, the diagonal and the Gray step", and document 02, Ask 2: from a word to a symbol number, and back.
 -- Assumes nothing.
 use mathlib.Core.Bool.{Bool, cond}
-use Prim.Native.Nat.{ℕ, _*_, _/_, _%_, _^_}
+use Prim.Native.Nat.{ℕ, _+_, _*_, _/_, _%_, _^_}
 use lib.Bits.{bitXor}
 use lib.Count.{ones}
 use Rattle.bits.specs.Bit.{number}
@@ -18,6 +18,6 @@ wordOfValue v = bitXor v (v / 2)
 unfoldable pub numberOfValue : Bool → ℕ → ℕ
 numberOfValue wide v = cond wide (4 * v) v
 
--- reading takes the number divided by 4, rounded down
-unfoldable pub valueOfNumber : Bool → ℕ → ℕ
-valueOfNumber wide s = cond wide (s / 4) s
+-- reading takes the number plus 2, divided by 4, rounded down, mod 2^(SF - 2); a value has n bits, SF - 2 at that spacing
+unfoldable pub valueOfNumber : ℕ → Bool → ℕ → ℕ
+valueOfNumber n wide s = cond wide ((s + 2) / 4 % 2 ^ n) s

@@ -32,16 +32,23 @@ pub fn number_of_value(wide: bool, v: u16) -> u16
     if wide { 4 * v } else { v }
 }
 
-fn value_of_number(wide: bool, s: u16) -> u16
-    ensures { λ r. ⌜ r ≡ valueOfNumber wide s ⌝ }
+// At the four-wide spacing the number plus 2, divided by 4: by halves, since the largest number plus 2 has no room in 16 bits.
+pub fn value_of_number(n: usize, wide: bool, s: u16) -> u16
+    requires { ⌜ n ≤ 12 ⌝ }
+    ensures { λ r. ⌜ r ≡ valueOfNumber n wide s ⌝ }
 {
-    if wide { s / 4 } else { s }
+    if wide {
+        (s / 2 + 1) / 2 % bits::power(n)
+    } else {
+        s
+    }
 }
 
-pub fn word_of_number(wide: bool, s: u16) -> u16
-    ensures { λ r. ⌜ r ≡ wordOfNumber wide s ⌝ }
+pub fn word_of_number(n: usize, wide: bool, s: u16) -> u16
+    requires { ⌜ n ≤ 12 ⌝ }
+    ensures { λ r. ⌜ r ≡ wordOfNumber n wide s ⌝ }
 {
-    word_of_value(value_of_number(wide, s))
+    word_of_value(value_of_number(n, wide, s))
 }
 
 // A place less than twice round n places, as one of them.

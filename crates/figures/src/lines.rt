@@ -8,7 +8,7 @@ use crate::rules::Rule;
 // as 001's "Gray Mapping" prints them.
 fn mapped(k: usize, value: bool) -> usize {
     let symbol = (ours::coded(11, false, 1, 2, 2 + k % 8) % 65536) as u16;
-    let word = block::word_of_number(true, symbol);
+    let word = block::word_of_number(9, true, symbol);
     let x = if value {
         block::value_of_word(9, word % 512)
     } else {
@@ -23,7 +23,7 @@ fn later(k: usize, places: u16) -> usize
     requires { ⌜ places < 8 ⌝ }
 {
     let symbol = (ours::coded(8, false, 1, 2, 10 + k % 5) % 65536) as u16;
-    let word = block::word_of_number(false, symbol);
+    let word = block::word_of_number(8, false, symbol);
     bits::wide16((word % 256 * 257) >> places) % 256
 }
 

@@ -41,7 +41,7 @@ module _ (sf : ℕ) (symbols : List ℕ) where
   head-placed : Placed (headOf sf symbols)
   head-placed =
       head-cases sf symbols Placed (omega arith) (omega arith) over-le (λ low l. omega arith)
-      (λ low high. said-placed (verdictOf (tab 5 (nibbleAt (headerFound sf symbols)))))
+      (λ low high none. said-placed (verdictOf (tab 5 (nibbleAt (headerFound sf symbols)))))
 
 module _ (F : Frame) (symbols : List ℕ) (len : ℕ) (v : Valid F) (short : len ≤ 255) where
   rest-le : overInRest F symbols len ≤ 65535

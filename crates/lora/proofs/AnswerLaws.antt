@@ -6,9 +6,10 @@ use mathlib.Core.List.{List}
 use Prim.Native.Nat.{ℕ, _<_, _≤_}
 use native.Mathlib.Omega.{arith}
 use lib.Dec.{leb}
-use lib.ListN.{length}
+use lib.ListN.{length, getD}
 use borrow.Author.Tests.{leb-true, leb-false, lt-leb, le-leb}
 use Rattle.bits.specs.Check.{check}
+use Rattle.drift.specs.Drift.{driftOf}
 use Rattle.layout.specs.Layout.{validSf, nibblesOf, symbolsOf}
 use Rattle.layout.specs.declared.Frame.{Frame}
 use Rattle.lora.specs.Head.{headOf}
@@ -20,10 +21,11 @@ use Rattle.lora.specs.declared.Heading.the-variants.{Says, Refused as He
 use Rattle.lora.specs.declared.Received.{Received}
 use Rattle.lora.specs.declared.Received.the-variants.{Payload, Refused}
 
--- where read accepts, head says the same, and the payload has room
+-- where read accepts, head says the same, the payload has room, and the drift is the first symbol's
 pub record Accepts (sf : ℕ) (symbols : List ℕ) (room : ℕ) (a : Accepted) : Type 0 where
   pub head : headOf sf symbols ≡ Says (record { length = a .length; cr = a .cr; checked = a .checked })
   pub fits : a .length ≤ room
+  pub drift : a .drift ≡ driftOf sf (getD symbols 0 0)
 
 -- what is answered behind the header, by the checks
 pub body-cases : (F : Frame) (symbols : List ℕ) (room len : ℕ) (P : Received → Type 0) → P (Refused 4 len) → P (Refused 5 (symbolsOf F len))
@@ -60,7 +62,7 @@ accepts sf low symbols room a e = one (headOf sf symbols) refl e
     one (HeadRefused n p) f g = absurd (let z : _≡_ {A = ℕ} 0 1 = cc in omega arith)
     one (Says h) f g =
         let (same, fits) = body-accepts (frameSaid sf low (h .cr) (h .checked)) symbols room (h .length) a g in
-        rw (← same) (record { head = f; fits = fits })
+        rw (← same) (record { head = f; fits = fits; drift = refl })
 
 -- the payload's bytes, by the rate and the flag that are answered
 pub bytes-said : (sf : ℕ) (low : Bool) (cr : ℕ) (flag : Bool) (symbols : List ℕ) (room len : ℕ) (old : List ℕ) (r : Received)

@@ -7,6 +7,7 @@ use Prim.Native.Nat.{ℕ, _+_, _-_, _^_, _<_, _≤_}
 use native.Mathlib.Nat.{add-zero}
 use native.Mathlib.Omega.{arith}
 use lib.Dec.{leb, eqb}
+use lib.IntN.{ℤ}
 use lib.ListN.{length, getD, take, drop}
 use lib.Seq.{take-at}
 use borrow.Author.Tests.{lt-leb, le-leb}
@@ -17,6 +18,7 @@ use Rattle.bits.proofs.Searches.{first-range, first-none, first-shift, howMany-
 use Rattle.bits.proofs.Tabs.{length-blank, length-tab, getD-over, over-cong}
 use Rattle.checksum.specs.Checksum.{checksum}
 use Rattle.codeword.specs.Codeword.{isRepaired}
+use Rattle.drift.specs.Drift.{driftOf}
 use Rattle.header.specs.declared.Header.{Header}
 use Rattle.layout.specs.Layout.{firstBlock, dataNibbles, nibblesOf, symbolsOf}
 use Rattle.layout.specs.Ranges.{Valid}
@@ -134,11 +136,21 @@ module _ {F : Frame} {symbols : List ℕ} {len before : ℕ} {nibbles : List ℕ
   unfolding dataOf
   says-twelve payload d l e f = rw (← run-ends, le-leb _ _ l, ← run-sum l d e, f)
 
-  pub says-payload : (payload d : List ℕ) → nibblesOf F len ≤ F .header + end → payload ≡ over len (payloadByte (F .header) (listed nibbles)) d
+  pub says-payload : {drift : ℤ} (payload d : List ℕ) → drift ≡ driftOf (F .sf) (getD symbols 0 0) → nibblesOf F len ≤ F .header + end → payload ≡ over len (payloadByte (F .header) (listed nibbles)) d
       → sumAgrees F len payload nibbles ≡ true
-      → Payload (record { length = len; cr = F .cr; checked = F .checked; symbols = symbolsOf F len; repairs = before + repairs }) ≡ dataOf F symbols len
+      → Payload (record {
+        length = len;
+        cr = F .cr;
+        checked = F .checked;
+        symbols = symbolsOf F len;
+        repairs = before + repairs;
+        drift = drift;
+      })
+      ≡ dataOf F symbols len
   unfolding dataOf acceptedOf
-  says-payload payload d l e f = rw (← run-ends, le-leb _ _ l, ← run-sum l d e, f, run-repairs l)
+  says-payload payload d is l e f =
+      ap (λ (x : ℤ). Payload (record { length = len; cr = F .cr; checked = F .checked; symbols = symbolsOf F len; repairs = before + repairs; drift = x })) is
+      ∙ rw (← run-ends, le-leb _ _ l, ← run-sum l d e, f, run-repairs l)
 
 -- a payload that is answered has the length that the header says
 pub data-length : (F : Frame) (symbols : List ℕ) (len : ℕ) (a : Accepted) → dataOf F symbols len ≡ Payload a → a .length ≡ len
@@ -188,7 +200,7 @@ unfolding listed
 copied n byte d old e = over-cong n _ _ old (λ i l. rw e (getD-over n byte d i 0 l))
 
 -- where head says a header, the frame behind it can be read on
-pub headed : (sf : ℕ) (low : Bool) (symbols : List ℕ) (h : Header) {grid : List (List Bool)} {repairs : ℕ} → Heads sf h
+pub headed : (sf : ℕ) (low : Bool) (symbols : List ℕ) (h : Header) {grid : List (List Bool)} {repairs : ℕ} → Heads sf symbols h
     → grid ≡ gridOfSymbols (firstBlock sf) symbols → repairs ≡ howMany (repairedAt (headerFound sf symbols)) 5
     → Headed (frameSaid sf low (h .cr) (h .checked)) symbols (h .length) grid repairs
 headed sf low symbols h {grid} {repairs} p g r =
@@ -197,6 +209,7 @@ headed sf low symbols h {grid} {repairs} p g r =
     record {
       valid = v;
       short = p .short;
+      starts = p .starts;
       first = g;
       counts = r ∙ howMany-cong _ _ 5 (λ i l. ap isRepaired (sym (header-found F symbols v i l)));
     }

@@ -6,11 +6,12 @@ use mathlib.Core.List.{List}
 use mathlib.Core.Path.{_≡_}
 use Prim.Native.Nat.{ℕ, _-_}
 use lib.Dec.{leb, eqb}
-use lib.ListN.{length}
+use lib.ListN.{length, getD}
 use Rattle.bits.specs.Check.{check}
 use Rattle.bits.specs.Search.{first, howMany}
 use Rattle.bits.specs.Tab.{tab, over}
 use Rattle.checksum.specs.Checksum.{checksum}
+use Rattle.drift.specs.Drift.{driftOf}
 use Rattle.layout.specs.Layout.{dataNibbles, nibblesOf, symbolsOf}
 use Rattle.layout.specs.declared.Frame.{Frame}
 use Rattle.reading.specs.Found.{foundAt, unreadableAt, repairedAt, nibbleAt}
@@ -47,9 +48,17 @@ sumHolds F symbols len =
 unfoldable pub repairsOf : Frame → List ℕ → ℕ → ℕ
 repairsOf F symbols len = howMany (repairedAt (foundAt F symbols)) (nibblesOf F len)
 
+-- the drift is the first symbol's
 unfoldable pub acceptedOf : Frame → List ℕ → ℕ → Accepted
 acceptedOf F symbols len =
-    record { length = len; cr = F .cr; checked = F .checked; symbols = symbolsOf F len; repairs = repairsOf F symbols len }
+    record {
+      length = len;
+      cr = F .cr;
+      checked = F .checked;
+      symbols = symbolsOf F len;
+      repairs = repairsOf F symbols len;
+      drift = driftOf (F .sf) (getD symbols 0 0);
+    }
 
 -- what is checked behind the header, and the answer
 unfoldable pub bodyOf : Frame → List ℕ → ℕ → ℕ → Received

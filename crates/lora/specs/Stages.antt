@@ -3,9 +3,9 @@
 use mathlib.Core.Bool.{Bool, true, cond}
 use mathlib.Core.List.{List}
 use mathlib.Core.Path.{_≡_}
-use Prim.Native.Nat.{ℕ, _≤_}
+use Prim.Native.Nat.{ℕ, _^_, _≤_, _<_}
 use lib.Dec.{eqb, leb}
-use lib.ListN.{length, take}
+use lib.ListN.{length, getD, take}
 use Rattle.bits.specs.Check.{check}
 use Rattle.bits.specs.Search.{howMany}
 use Rattle.bits.specs.Tab.{over, blank}
@@ -37,10 +37,12 @@ pub record Opening (found : ℕ → Found) (heading : Heading) (repairs : ℕ) :
   pub says : heading ≡ headerOf found
   pub counts : (h : Header) → heading ≡ Says h → repairs ≡ howMany (repairedAt found) 5
 
--- a header was read: the frame that it says is valid, block 0 is in the grid, and its repairs are counted
+-- a header was read: the frame that it says is valid, its first symbol is below 2^SF, block 0 is in the grid, and its repairs
+-- are counted
 pub record Headed (F : Frame) (symbols : List ℕ) (len : ℕ) (grid : List (List Bool)) (repairs : ℕ) : Type 0 where
   pub valid : Valid F
   pub short : len ≤ 255
+  pub starts : getD symbols 0 0 < 2 ^ F .sf
   pub first : grid ≡ gridOfSymbols (firstBlock (F .sf)) symbols
   pub counts : repairs ≡ howMany (repairedAt (foundAt F symbols)) (F .header)
 

@@ -39,13 +39,14 @@ pub enum Heading {
 }
 
 // What read says of a payload that it accepts: its length, the frame's code rate, whether a checksum followed it, the symbols
-// that the frame has, and the codewords that were repaired.
+// that the frame has, the codewords that were repaired, and how far the first symbol was off its mark, -2 to +1.
 pub struct Accepted {
     pub length: usize,
     pub cr: u8,
     pub checked: bool,
     pub symbols: usize,
     pub repairs: usize,
+    pub drift: i8,
 }
 
 // The answer of read.

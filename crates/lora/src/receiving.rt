@@ -82,6 +82,7 @@ fn decode(
         checked: f.checked,
         symbols: total,
         repairs: repairs + progress.repairs,
+        drift: drift::drift_of_number(f.sf, symbols[0]),
     });
     Body { payload, answer }
 }

@@ -3,8 +3,9 @@
 use mathlib.Core.Bool.{Bool, not}
 use mathlib.Core.List.{List, [], _∷_, _++_}
 use mathlib.Core.Path.{_≡_}
-use Prim.Native.Nat.{ℕ}
+use Prim.Native.Nat.{ℕ, suc, _-_, _^_}
 use lib.Dec.{eqb, ltb}
+use lib.IntN.{ℤ, pos, negsuc}
 use lib.ListN.{length, drop}
 use Rattle.bits.specs.Bit.{asBit}
 use Rattle.bits.specs.Check.{check}
@@ -44,6 +45,11 @@ abbrev pub codeOfReceived : Received → ℕ
 codeOfReceived (Payload a) = 0
 codeOfReceived (Refused number place) = number
 
+-- a signed number as a cell: a negative one is 2^64 less its size
+abbrev pub cellOf : ℤ → ℕ
+cellOf (pos n) = n
+cellOf (negsuc n) = 2 ^ 64 - suc n
+
 -- the cells written: an acceptance's values, a refusal's place
 abbrev pub cellsOfCounted : Counted → List ℕ
 cellsOfCounted (Symbols count) = count ∷ []
@@ -58,7 +64,7 @@ cellsOfHeading (Says h) = h .length ∷ h .cr ∷ asBit (h .checked) ∷ []
 cellsOfHeading (HeadRefused number place) = place ∷ []
 
 abbrev pub cellsOfReceived : Received → List ℕ
-cellsOfReceived (Payload a) = a .length ∷ a .cr ∷ asBit (a .checked) ∷ a .symbols ∷ a .repairs ∷ []
+cellsOfReceived (Payload a) = a .length ∷ a .cr ∷ asBit (a .checked) ∷ a .symbols ∷ a .repairs ∷ cellOf (a .drift) ∷ []
 cellsOfReceived (Refused number place) = place ∷ []
 
 -- cells at the front of a list, and the rest as it was
@@ -93,5 +99,5 @@ pub record CodeExported (a : Counted) (s : Settings) (payload lent out old new :
 
 -- read's, with the lent bytes before and after
 pub record ReadExported (a : Received) (sf : ℕ) (low : Bool) (symbols lent out old new : List ℕ) (r : ℕ) : Type 0 where
-  pub is : Exported 5 (codeOfReceived a) (cellsOfReceived a) old new r
-  pub bytes : Lent 5 old lent (bytesAfter a sf low symbols lent) out
+  pub is : Exported 6 (codeOfReceived a) (cellsOfReceived a) old new r
+  pub bytes : Lent 6 old lent (bytesAfter a sf low symbols lent) out

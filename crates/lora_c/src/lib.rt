@@ -9,7 +9,7 @@ ghost use Rattle.lora.specs.Code.{codeOf};
 ghost use Rattle.lora.specs.Count.{countOf};
 ghost use Rattle.lora.specs.Head.{headOf};
 ghost use Rattle.lora.specs.Read.{readOf};
-ghost use Rattle.lora_c.specs.Export.{flagOf, settingsOf, front, CountExported, TimeExported, HeadExported, CodeExported, ReadExported};
+ghost use Rattle.lora_c.specs.Export.{flagOf, settingsOf, cellOf, front, CountExported, TimeExported, HeadExported, CodeExported, ReadExported};
 
 mod day_file;
 
@@ -39,6 +39,17 @@ fn flag(b: bool) -> u64
     ensures { λ r. ⌜ r ≡ asBit b ⌝ }
 {
     if b { 1 } else { 0 }
+}
+
+// A signed number as a cell: a negative one is 2^64 less its size, as C and Rust turn it back.
+fn signed(n: i8) -> u64
+    ensures { λ r. ⌜ r ≡ cellOf n ⌝ }
+{
+    if n < 0 {
+        18446744073709551615 - (-1 - n) as u64
+    } else {
+        n as u64
+    }
 }
 
 // Writes the first cells of `answer`.
@@ -159,7 +170,7 @@ pub extern "C" fn lora_head(sf: u8, symbols: &[u16], answer: &mut [u64]) -> u8
     }
 }
 
-// Reads a frame's payload into the lent bytes. answer on acceptance: length, CR, checksum flag, symbols used, repairs.
+// Reads a frame's payload into the lent bytes. answer on acceptance: length, CR, checksum flag, symbols used, repairs, drift.
 #[no_mangle]
 pub extern "C" fn lora_read(
     sf: u8,
@@ -170,7 +181,7 @@ pub extern "C" fn lora_read(
 ) -> u8
     ensures { λ r. ⌜ ReadExported (readOf sf (flagOf low) (now (symbols .entry)) (length (now (out .entry)))) sf (flagOf low) (now (symbols .entry)) (now (out .entry)) (now (out .exit)) (now (answer .entry)) (now (answer .exit)) r ⌝ }
 {
-    if answer.len() < 5 {
+    if answer.len() < 6 {
         return ANSWER_SHORT;
     }
     let received = lora::read(sf, low != 0, symbols, out);
@@ -188,6 +199,7 @@ pub extern "C" fn lora_read(
                     flag(a.checked),
                     a.symbols as u64,
                     a.repairs as u64,
+                    signed(a.drift),
                 ],
             );
             0

@@ -109,7 +109,7 @@ pub head-among : (more : List ℕ) (sf : ℕ) (symbols : List ℕ) → HeadGives
 unfolding oneOf
 head-among more sf symbols =
     head-cases sf symbols (HeadGives (heads more)) refl refl refl (λ low l. refl)
-    (λ low high. said-among (heads more) refl refl refl (tab 5 (nibbleAt (headerFound sf symbols))))
+    (λ low high none. said-among (heads more) refl refl refl (tab 5 (nibbleAt (headerFound sf symbols))))
 
 body-among : (F : Frame) (symbols : List ℕ) (room len : ℕ) → ReadGives reads (bodyOf F symbols room len)
 unfolding oneOf
@@ -136,7 +136,7 @@ head-seven sf symbols place =
     (λ e. absurd (let z : _≡_ {A = ℕ} 5 7 = cc in omega arith))
     (λ e. absurd (let z : _≡_ {A = ℕ} 6 7 = cc in omega arith))
     (λ low l e. let same : unreadableInHeader (headerFound sf symbols) ≡ place = cc in omega arith)
-    (λ low high e. absurd (true≢false (sym (rw e at (said-among (9 ∷ 10 ∷ 11 ∷ []) refl refl refl (tab 5 (nibbleAt (headerFound sf symbols))))))))
+    (λ low high none e. absurd (true≢false (sym (rw e at (said-among (9 ∷ 10 ∷ 11 ∷ []) refl refl refl (tab 5 (nibbleAt (headerFound sf symbols))))))))
 
 -- and behind the header at a data codeword that can't be read
 pub body-seven : (F : Frame) (symbols : List ℕ) (room len place : ℕ) → bodyOf F symbols room len ≡ Refused 7 place → unreadableAt (foundAt F symbols) place ≡ true

@@ -61,12 +61,12 @@ module _ (s : Settings) (payload arrived : List ℕ) (i : ℕ) where
 
 module _ {s : Settings} {payload old sent : List ℕ} {count : ℕ} {arrived buffer buffer′ : List ℕ} {answer : Received}
     (c : Passed s payload old sent count arrived buffer buffer′ answer) where
-  sender : Sent s payload
+  pub sender : Sent s payload
   sender =
       let k = coded s payload (length old) count (sym (c .coded .answer)) .0 in
       record { valid = k .settings; short = k .short; bytes = c .bytes }
 
-  counts : count ≡ symbolsOf (frameOf s) (length payload)
+  pub counts : count ≡ symbolsOf (frameOf s) (length payload)
   counts = coded s payload (length old) count (sym (c .coded .answer)) .0 .is
 
   -- a codeword has at most as many changed bits as symbols were changed in a block

@@ -4,6 +4,7 @@ pub mod Outcome
 pub mod Answers
 pub mod Codewords
 pub mod Unchanged
+pub mod Drifted
 pub mod Demand1
 pub mod Demand2
 pub mod Demand3

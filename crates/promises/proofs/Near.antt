@@ -4,13 +4,16 @@ use mathlib.Core.Path.{_≡_, refl, ap, _∙_}
 use mathlib.Core.Bool.{not}
 use mathlib.Core.List.{List}
 use Prim.Native.Nat.{ℕ, _+_, _-_, _^_, _≤_, _<_}
+use native.Mathlib.Nat.{le-trans}
 use native.Mathlib.Omega.{arith}
 use lib.Dec.{eqb}
 use lib.ListN.{length, getD}
+use borrow.Author.Tests.{eq-eqb}
 use Rattle.bits.specs.Search.{howMany}
 use Rattle.bits.specs.Tab.{Bytes}
-use Rattle.bits.proofs.Searches.{howMany-cong}
-use Rattle.block.proofs.BlockLaws.{wrong-bits}
+use Rattle.bits.proofs.Searches.{howMany-cong, howMany-none}
+use Rattle.block.specs.Block.{wordOfCodewords}
+use Rattle.block.proofs.BlockLaws.{wrong-bits, wrong-words}
 use Rattle.codeword.specs.Codeword.{codeword, apart, readAs}
 use Rattle.codeword.specs.Ranges.{Rate}
 use Rattle.codeword.specs.declared.Found.{Found}
@@ -27,6 +30,7 @@ use Rattle.lora.specs.Code.{sentNibble, sentSymbol}
 use Rattle.lora.specs.Count.{frameOf}
 use Rattle.lora.specs.declared.Settings.{Settings}
 use Rattle.reading.specs.Found.{wordInBlock, foundInBlock, foundAt}
+use Rattle.reading.specs.Stages.{symbolWord}
 use Rattle.reading.proofs.ReadingLaws.{word-lt}
 use Rattle.promises.specs.Damage.{readWords, blockAt, blockFor, sentWord, arrivedWord, changedBits, changedSymbols}
 
@@ -55,10 +59,31 @@ own-word : (s : Settings) (payload : List ℕ) → Valid (frameOf s) → (i : �
 unfolding codewordInBlock sentWord
 own-word s payload v i = rw (row-of s v i .0)
 
+-- the word that symbol j of codeword i's block was made of
+unfoldable pub madeOf : Settings → List ℕ → ℕ → ℕ → ℕ
+madeOf s payload i j = wordOfCodewords (blockFor s i .rows) (codewordInBlock (blockFor s i) (sentNibble s payload)) j
+
+module _ (s : Settings) (payload arrived : List ℕ) (p : Sent s payload) (i : ℕ) where
+  -- a codeword has at most as many changed bits as its block has symbols that are read as other words than they were made of
+  changed-words : changedBits s payload arrived i
+      ≤ howMany (λ j. not (eqb (symbolWord (blockFor s i) arrived j) (madeOf s payload i j))) (4 + blockFor s i .rate)
+  unfolding changedBits arrivedWord sentWord blockFor apart wordInBlock symbolWord madeOf
+  changed-words =
+      let B : Block = blockFor s i in
+      let row : i - B .codeword < B .rows = row-of s (p .valid) i .1 in
+      let own : codewordInBlock B (sentNibble s payload) (i - B .codeword) ≡ codeword (B .rate) (sentNibble s payload i) = own-word s payload (p .valid) i in
+      rw own at (wrong-bits (B .rows) (4 + B .rate) (B .spaced) (codewordInBlock B (sentNibble s payload)) (λ j. getD arrived (B .symbol + j) 0) (i - B .codeword) row)
+
+  -- none where each is read as the word it was made of
+  pub none-changed : ((j : ℕ) → j < 4 + blockFor s i .rate → symbolWord (blockFor s i) arrived j ≡ madeOf s payload i j) → changedBits s payload arrived i ≡ 0
+  none-changed same =
+      let none = howMany-none _ (4 + blockFor s i .rate) (λ j l. ap not (eq-eqb _ _ (same j l))) in
+      omega (arith, changed-words, none)
+
 module _ (s : Settings) (payload sent arrived : List ℕ) (p : Sent s payload)
     (frame : (t : ℕ) → t < symbolsOf (frameOf s) (length payload) → getD sent t 0 ≡ sentSymbol s payload t) where
   -- the symbols of a block as they were sent
-  sent-in-block : (b j : ℕ) → b ≤ laterBlocks (frameOf s) (readWords s payload) → j < 4 + blockAt s b .rate
+  pub sent-in-block : (b j : ℕ) → b ≤ laterBlocks (frameOf s) (readWords s payload) → j < 4 + blockAt s b .rate
       → getD sent (blockAt s b .symbol + j) 0 ≡ symbolInBlock (blockAt s b) (sentNibble s payload) j
   unfolding blockAt sentSymbol sentNibble readWords symbolsOf
   sent-in-block b j h l =
@@ -67,18 +92,17 @@ module _ (s : Settings) (payload sent arrived : List ℕ) (p : Sent s payload)
 
   -- a codeword has at most as many changed bits as its block has changed symbols
   pub changed-le : (i : ℕ) → i < readWords s payload → changedBits s payload arrived i ≤ changedSymbols s sent arrived (blockOfCodeword (frameOf s) i)
-  unfolding changedBits changedSymbols arrivedWord sentWord blockFor apart wordInBlock symbolInBlock
+  unfolding changedSymbols blockFor symbolInBlock symbolWord madeOf
   changed-le i h =
       let b : ℕ = blockOfCodeword (frameOf s) i in
       let B : Block = blockAt s b in
-      let row : i - B .codeword < B .rows = row-of s (p .valid) i .1 in
-      let own : codewordInBlock B (sentNibble s payload) (i - B .codeword) ≡ codeword (B .rate) (sentNibble s payload i) = own-word s payload (p .valid) i in
       let count : howMany (λ j. not (eqb (getD arrived (B .symbol + j) 0) (getD sent (B .symbol + j) 0))) (4 + B .rate)
       ≡ howMany (λ j. not (eqb (getD arrived (B .symbol + j) 0) (symbolInBlock B (sentNibble s payload) j))) (4 + B .rate)
       = howMany-cong _ _ (4 + B .rate)
       (λ j l. ap (λ (x : ℕ). not (eqb (getD arrived (B .symbol + j) 0) x)) (sent-in-block b j (block-of-read (frameOf s) (p .valid) i (readWords s payload) h) l)) in
       rw count
-      (rw own at (wrong-bits (B .rows) (4 + B .rate) (B .spaced) (codewordInBlock B (sentNibble s payload)) (λ j. getD arrived (B .symbol + j) 0) (i - B .codeword) row))
+      (le-trans (changed-words s payload arrived p i)
+      (wrong-words (B .rows) (4 + B .rate) (B .spaced) (codewordInBlock B (sentNibble s payload)) (λ j. getD arrived (B .symbol + j) 0)))
 
 -- what a codeword is found to be, by its changed bits
 module _ (s : Settings) (payload arrived : List ℕ) (p : Sent s payload) where

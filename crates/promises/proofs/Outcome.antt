@@ -14,6 +14,7 @@ use Rattle.bits.specs.Tab.{tab, over}
 use Rattle.bits.proofs.Searches.{first-none, first-skip, first-before, first-fewer, first-later}
 use Rattle.checksum.specs.Checksum.{checksum}
 use Rattle.coding.specs.Nibbles.{frameNibble}
+use Rattle.drift.specs.Drift.{driftOf}
 use Rattle.header.specs.Header.{headerNibbles}
 use Rattle.header.proofs.HeaderLaws.{length-header, header-back}
 use Rattle.layout.specs.Layout.{validSf, dataNibbles, nibblesOf, symbolsOf}
@@ -135,6 +136,7 @@ module _ (s : Settings) (payload arrived : List ℕ) (p : Sent s payload)
           checked = s .checked;
           symbols = symbolsOf (frameOf s) (length payload);
           repairs = howMany (repairedAt (foundAt (frameOf s) arrived)) (readWords s payload);
+          drift = driftOf (s .sf) (getD arrived 0 0);
         })
     unfolding readOf acceptedOf repairsOf readWords
     read-whole room fits =

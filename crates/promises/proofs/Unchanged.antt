@@ -41,11 +41,3 @@ module _ {s : Settings} {payload old sent : List ℕ} {count : ℕ} (c : Coding 
 
     pub enough : count ≤ length (take count sent ++ after)
     enough = rw (as-written, length-append, length-tab) (omega arith)
-
-    pub unchanged : FewSymbols 0 s payload sent (take count sent ++ after)
-    unfolding changedSymbols blockAt readWords symbolsOf
-    unchanged b h =
-        let k = coded s payload (length old) count (sym (c .answer)) .0 in
-        let within = symbols-below (frameOf s) (k .settings) (readWords s payload) b h in
-        let none = howMany-none _ (4 + blockAt s b .rate) (λ j l. ap not (eq-eqb _ _ (same (blockAt s b .symbol + j) (omega (arith, k .is))))) in
-        omega (arith, none)

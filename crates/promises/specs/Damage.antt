@@ -9,6 +9,7 @@ use lib.ListN.{length, getD, drop}
 use Rattle.bits.specs.Search.{first, howMany}
 use Rattle.bits.specs.Tab.{Bytes}
 use Rattle.codeword.specs.Codeword.{codeword, apart}
+use Rattle.drift.specs.Drift.{driftOf}
 use Rattle.layout.specs.Layout.{blockOf, blockOfCodeword, laterBlocks, nibblesOf}
 use Rattle.layout.specs.declared.Block.{Block}
 use Rattle.lora.specs.Code.{sentNibble, Coding}
@@ -73,7 +74,7 @@ hurtAfterFirst s payload arrived i = leb (s .sf - 2) i && hurt s payload arrived
 unfoldable pub hurtTwice : Settings → List ℕ → List ℕ → ℕ → Bool
 hurtTwice s payload arrived i = eqb (changedBits s payload arrived i) 2
 
--- the sent payload is returned, with a repair for each codeword read that has a changed bit
+-- the sent payload is returned, with a repair for each codeword read that has a changed bit, and the first symbol's drift
 pub record Returned (s : Settings) (payload arrived : List ℕ) (count : ℕ) (old new : List ℕ) (answer : Received) : Type 0 where
   pub says : answer ≡ Payload (record {
     length = length payload;
@@ -81,6 +82,7 @@ pub record Returned (s : Settings) (payload arrived : List ℕ) (count : ℕ) (o
     checked = s .checked;
     symbols = count;
     repairs = howMany (hurt s payload arrived) (readWords s payload);
+    drift = driftOf (s .sf) (getD arrived 0 0);
   })
   pub cells : new ≡ payload ++ drop (length payload) old
 

@@ -1,2 +1,3 @@
 pub mod Damage
+pub mod Drifted
 pub mod Refusals

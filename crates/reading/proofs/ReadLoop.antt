@@ -22,8 +22,8 @@ use Rattle.reading.specs.Found.{unreadableAt, repairedAt, nibbleAt}
 use Rattle.reading.specs.Stages.{Walk}
 
 -- the symbol word received at j places behind the first
-unfoldable pub wordAt : Bool → ℕ → List ℕ → ℕ → ℕ
-wordAt wide first symbols j = wordOfNumber wide (getD symbols (first + j) 0)
+unfoldable pub wordAt : ℕ → Bool → ℕ → List ℕ → ℕ → ℕ
+wordAt rows wide first symbols j = wordOfNumber rows wide (getD symbols (first + j) 0)
 
 -- each of the first m codewords can be read, with so many repairs
 pub record Clear (h : ℕ → Found) (m repairs : ℕ) : Type 0 where

@@ -18,7 +18,7 @@ use Rattle.reading.specs.Found.{foundAt, unreadableAt, repairedAt, nibbl
 
 -- the symbol word received in column j of a block
 unfoldable pub symbolWord : Block → List ℕ → ℕ → ℕ
-symbolWord B symbols j = wordOfNumber (B .spaced) (getD symbols (B .symbol + j) 0)
+symbolWord B symbols j = wordOfNumber (B .rows) (B .spaced) (getD symbols (B .symbol + j) 0)
 
 -- the grid of a block's symbol words
 unfoldable pub gridOfSymbols : Block → List ℕ → List (List Bool)

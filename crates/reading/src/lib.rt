@@ -35,12 +35,13 @@ fn words_of_block(b: Block, symbols: &[u16]) -> [u16; 8]
     requires { ⌜ Fits b × (b .symbol + (4 + b .rate) ≤ length (now symbols)) ⌝ }
     ensures { λ r. ⌜ r ≡ over (4 + b .rate) (symbolWord b (now (symbols .entry))) (blank 8 0) ⌝ }
 {
+    let rows = b.rows;
     let wide = b.spaced;
     let first = b.symbol;
     let columns = 4 + bits::wide(b.rate);
     let mut words = [0u16; 8];
     for j in 0..columns {
-        words[j] = block::word_of_number(wide, symbols[first + j]);
+        words[j] = block::word_of_number(rows, wide, symbols[first + j]);
     }
     words
 }

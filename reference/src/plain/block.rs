@@ -82,8 +82,31 @@ impl Block {
     }
 
     fn word(&self, symbol: u16) -> u16 {
-        let value = if self.four_wide { symbol / 4 } else { symbol };
+        let value = if self.four_wide {
+            self.value_read(symbol)
+        } else {
+            symbol
+        };
         value ^ (value / 2)
+    }
+
+    /// The value that a number is read as at the four-wide spacing (document 02,
+    /// Ask 2). There N is SF - 2, so the values are those below 2^N.
+    fn value_read(&self, symbol: u16) -> u16 {
+        (symbol + 2) / 4 % (1 << self.n)
+    }
+
+    /// The drift of a number at the four-wide spacing: its signed distance from
+    /// its mark, 4 x the value read from it, round the circle of 2^SF numbers.
+    pub fn drift(&self, symbol: u16) -> i8 {
+        let circle = 4 << self.n;
+        let mark = 4 * self.value_read(symbol);
+        let mut distance = i32::from(symbol) - i32::from(mark);
+        // The last two numbers have the mark 0, which comes right after them.
+        if distance > circle / 2 {
+            distance -= circle;
+        }
+        distance as i8
     }
 }
 
@@ -91,4 +114,25 @@ impl Block {
 /// place and all above it.
 pub fn value(word: u16) -> u16 {
     (0..16).fold(0, |sum, shift| sum ^ word >> shift)
+}
+
+#[cfg(test)]
+mod tests {
+    use super::*;
+
+    /// Going from the mark by the drift, round the circle, leads to the number.
+    #[test]
+    fn mark_and_drift_make_the_number() {
+        for sf in 7..=12 {
+            let first = Block::first(sf);
+            let circle = 1 << sf;
+            for symbol in 0..circle {
+                let mark = 4 * i32::from(first.value_read(symbol as u16));
+                let drift = i32::from(first.drift(symbol as u16));
+                assert!((0..circle).contains(&mark), "SF {sf}: {symbol}");
+                assert!((-2..=1).contains(&drift), "SF {sf}: {symbol}");
+                assert_eq!((mark + drift).rem_euclid(circle), symbol, "SF {sf}");
+            }
+        }
+    }
 }

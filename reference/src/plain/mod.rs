@@ -95,6 +95,7 @@ pub fn read(sf: u8, low: bool, symbols: &[u16], out: &mut [u8]) -> Result<Receiv
         header,
         symbols: needed,
         repairs,
+        drift: Block::first(sf).drift(symbols[0]),
     })
 }
 

@@ -1,7 +1,10 @@
--- Read's answer as a number and five cells, beside the list of bytes.
-use mathlib.Core.Path.{sym, _∙_}
+-- Read's answer as a number and six cells, beside the list of bytes.
+use mathlib.Core.Path.{sym, ap, _∙_}
+use mir.Facts.{toZ-ofZ}
+use mir.Syntax.{w8}
+use Rattle.lora_c.specs.Export.{cellOf}
 use Rattle.lora_c.proofs.FrontLaws.{short, enough, lent-short, lent-enough}
-use borrow.Author.Needs.{needs}
+use borrow.Author.Needs.{needs, sfits-of}
 use Rattle.lora_c.proofs.lora_read.Statement.{statement}
 use Rattle.lora_c.proofs.lora_read.Tie as tie
 
@@ -28,6 +31,9 @@ cast-t27 c = search needs
 
 flag-requires : tie.Need-flag-requires
 flag-requires c κs = search needs
+
+signed-requires : tie.Need-signed-requires
+signed-requires c κs = search needs
 
 slice-aggregate-put-2 : tie.Need-slice-aggregate-put-2
 slice-aggregate-put-2 c = search needs
@@ -59,12 +65,14 @@ same-length-4 c = search needs
 returns-3 : tie.Need-returns-3
 returns-3 c =
     let p = c .before .before in
-    let f = p .before .before in
+    let d = p .before .before in
+    let f = d .before .before in
     let m = f .before .before .before .before in
     let k = m .before .before .before .before in
     let h = k .before .before .if1 .left in
+    let drift = d .signed .ensures ∙ ap cellOf (toZ-ofZ {w = w8} {z = m .received2 .given .0 .0 .drift} (sfits-of (d .before .struct-told .given .1 .1 .1 .1 .1 .0 .1))) in
     rw (sym (k .read .ensures .answer) ∙ m .received2 .given .1)
-    (record { is = enough h (rw (f .flag .ensures) at (p .put2 .ensures)); bytes = lent-enough h (rw (m .received2 .given .1) at (k .read .ensures .cells)) })
+    (record { is = enough h (rw (f .flag .ensures, drift) at (p .put2 .ensures)); bytes = lent-enough h (rw (m .received2 .given .1) at (k .read .ensures .cells)) })
 
 pub lora-read-spec : {M : Type 1} → statement M
 lora-read-spec =
@@ -78,6 +86,7 @@ lora-read-spec =
     enum-known-received-2
     cast-t27
     flag-requires
+    signed-requires
     slice-aggregate-put-2
     put-requires-2
     same-length

@@ -11,10 +11,10 @@ use Rattle.reading.proofs.words_of_block.Statement.{statement}
 use Rattle.reading.proofs.words_of_block.Tie as tie
 
 abbrev Inv-loop : tie.InvT-loop
-Inv-loop symbols wide first columns words₀ j₀ words j = (j ≤ columns) × Filled (wordAt wide first symbols) (blank 8 0) j words
+Inv-loop symbols rows wide first columns words₀ j₀ words j = (rows ≤ 12) × (j ≤ columns) × Filled (wordAt rows wide first symbols) (blank 8 0) j words
 
 abbrev μ-loop : tie.MeasureT-loop
-μ-loop symbols wide first columns words₀ j₀ words j = columns - j
+μ-loop symbols rows wide first columns words₀ j₀ words j = columns - j
 
 wide-requires : tie.Need-wide-requires Inv-loop μ-loop
 wide-requires c κs = search needs
@@ -24,7 +24,7 @@ add-columns c = search needs
 
 loop-holds : tie.Need-loop-holds Inv-loop μ-loop
 unfolding blank
-loop-holds c = (search needs, filled-none _ _)
+loop-holds c = (search needs, search needs, filled-none _ _)
 
 add-word-of-number : tie.Need-add-word-of-number Inv-loop μ-loop
 add-word-of-number c = search needs
@@ -52,11 +52,13 @@ loop-less c = search needs
 
 loop-again : tie.Need-loop-again Inv-loop μ-loop
 unfolding wordAt
-loop-again c = (search needs, filled-more (c .before .before .before .loop .inv .1) (omega (arith, length-blank {A = ℕ} 8 0)) (c .word-of-number .ensures))
+loop-again c =
+    let (few, _, filled) = c .before .before .before .loop .inv in
+    (few, search needs, filled-more filled (omega (arith, length-blank {A = ℕ} 8 0)) (c .word-of-number .ensures))
 
 returns : tie.Need-returns Inv-loop μ-loop
 unfolding symbolWord wordAt
-returns c = filled-end (c .before .loop .inv .1) (omega arith)
+returns c = filled-end (c .before .loop .inv .2) (omega arith)
 
 pub words-of-block-spec : {M : Type 1} → statement M
 words-of-block-spec =

@@ -80,9 +80,9 @@ impl Case {
             symbols,
             out_len,
             answer_len: if random.once_in(4) {
-                random.below(8)
+                random.below(9)
             } else {
-                5 + random.below(3)
+                6 + random.below(3)
             },
         }
     }

@@ -100,6 +100,8 @@ fn told(operations: &Operations, case: &Case, mut cells: Cells) -> (u8, Cells) {
         .map(|received| {
             let mut fields = header_fields(&received.header);
             fields.extend([received.symbols as u64, received.repairs as u64]);
+            // A cell has no sign: a negative number is 2^64 less its size.
+            fields.push(i64::from(received.drift) as u64);
             fields
         }),
         Operation::Head => {

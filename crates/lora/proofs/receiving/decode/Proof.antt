@@ -4,11 +4,13 @@ use Prim.Native.Nat.{_+_, _≤_}
 use native.Mathlib.Omega.{arith}
 use borrow.Author.Tests.{not-true, not-false}
 use denote.Ref.{now}
+use mir.Facts.{toZ-ofZ}
+use mir.Syntax.{w8}
 use Rattle.bits.specs.Tab.{blank}
 use Rattle.layout.specs.Layout.{nibblesOf, symbolsOf}
-use Rattle.layout.proofs.LayoutLaws.{data-le, nibbles-le}
+use Rattle.layout.proofs.LayoutLaws.{data-le, nibbles-le, symbols-ge}
 use Rattle.lora.proofs.ReadLaws.{Run, data-is, whole-is, run-le, run-few, run-small, run-payload, says-unreadable, says-twelve, says-payload}
-use borrow.Author.Needs.{needs}
+use borrow.Author.Needs.{needs, sfits-of}
 use Rattle.lora.proofs.receiving.decode.Statement.{statement}
 use Rattle.lora.proofs.receiving.decode.Tie as tie
 
@@ -101,13 +103,23 @@ add-t15 c =
     let r = p .before .before .before .before in
     omega (arith, run-few (run r), few r, start r .pre .1 .headed .valid .header-high)
 
+shared-slice-read-drift-of-number : tie.Need-shared-slice-read-drift-of-number
+shared-slice-read-drift-of-number c =
+    let p = c .before .before .before .before .before in
+    let s = start (p .before .before .before .before) in
+    omega (arith, s .pre .1 .whole, s .pre .1 .there, symbols-ge (s .args .f) (s .args .len))
+
+drift-of-number-requires : tie.Need-drift-of-number-requires
+drift-of-number-requires c κs = search needs
+
 returns-3 : tie.Need-returns-3
 returns-3 c =
-    let p = c .before .before .before .before in
+    let p = c .before .before .before .before .before .before in
     let e = p .before .before in
     let w = run (e .before .before) in
+    let drift = toZ-ofZ {w = w8} (sfits-of (c .drift-of-number .ok)) ∙ c .drift-of-number .ensures in
     record {
-      says = rw (start (e .before .before) .pre .1 .whole) (says-payload w _ (blank 255 0) (whole e) (p .payload-of-nibbles .ensures) (sym (c .before .before .sum-holds .ensures) ∙ not-false _ (c .before .if2 .left)));
+      says = rw (start (e .before .before) .pre .1 .whole) (says-payload w _ (blank 255 0) drift (whole e) (p .payload-of-nibbles .ensures) (sym (c .before .before .before .before .sum-holds .ensures) ∙ not-false _ (c .before .before .before .if2 .left)));
       held = p .payload-of-nibbles .ensures ∙ run-payload w (whole e) (blank 255 0);
     }
 
@@ -124,4 +136,6 @@ decode-spec =
     sum-holds-requires
     returns-2
     add-t15
+    shared-slice-read-drift-of-number
+    drift-of-number-requires
     returns-3)

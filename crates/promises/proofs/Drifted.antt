@@ -1,0 +1,151 @@
+-- Document 02, Ask 2: a frame that arrives beside its marks, and what its drift is.
+-- Assumes nothing.
+use mathlib.Core.Path.{_≡_, refl, sym, ap, ap₂, _∙_}
+use mathlib.Core.Bool.{Bool, true, false}
+use mathlib.Core.List.{List, _++_}
+use Prim.Native.Nat.{ℕ, zero, suc, _+_, _-_, _*_, _^_, _≤_, _<_}
+use native.Mathlib.Omega.{arith}
+use lib.IntN.{ℤ}
+use lib.ListN.{length, getD, drop}
+use lib.Pow.{pow-pos}
+use Rattle.bits.specs.Tab.{Bytes}
+use Rattle.bits.proofs.Searches.{howMany-none}
+use Rattle.block.specs.Block.{symbolOfCodewords, wordOfCodewords, wordOfNumber}
+use Rattle.block.specs.Gray.{numberOfValue, valueOfNumber}
+use Rattle.block.proofs.BlockLaws.{read-symbol}
+use Rattle.coding.specs.Symbols.{codewordInBlock, symbolInBlock}
+use Rattle.drift.specs.Drift.{moved, markOf, driftOf, Small}
+use Rattle.drift.proofs.DriftLaws.{read-moved, drift-of-symbol, drift-small, drift-moves, drift-only, moved-below}
+use Rattle.layout.specs.Layout.{rowsOfFirst, rowsOfLater, firstBlock, blockOf, blockOfSymbol, blockOfCodeword, laterBlocks, symbolsOf}
+use Rattle.layout.specs.declared.Block.{Block}
+use Rattle.layout.specs.declared.Frame.{Frame}
+use Rattle.layout.proofs.LayoutLaws.{block-of-read, symbol-in, symbols-below, symbols-ge}
+use Rattle.lora.specs.Code.{sentNibble, Coding}
+use Rattle.lora.specs.Count.{frameOf}
+use Rattle.lora.specs.Read.{Reading}
+use Rattle.lora.specs.declared.Accepted.{Accepted}
+use Rattle.lora.specs.declared.Settings.{Settings}
+use Rattle.lora.specs.declared.Counted.the-variants.{Symbols}
+use Rattle.lora.specs.declared.Received.{Received}
+use Rattle.lora.specs.declared.Received.the-variants.{Payload}
+use Rattle.lora.proofs.AnswerLaws.{accepts}
+use Rattle.lora.proofs.HeadLaws.{head-sound}
+use Rattle.reading.specs.Stages.{symbolWord}
+use Rattle.promises.specs.Damage.{readWords, blockAt, blockFor, changedBits, Passed, hurt}
+use Rattle.promises.specs.Drifted.{isSpaced, Drifted, IsDrift}
+use Rattle.promises.proofs.Near.{Sent, madeOf, none-changed, sent-in-block}
+use Rattle.promises.proofs.Answers.{never}
+use Rattle.promises.proofs.Codewords.{sender, counts, frame-cells, answered-by, clean, hurt-none}
+use Rattle.promises.proofs.Unchanged.{below-limit}
+
+-- a block at the four-wide spacing has SF - 2 rows
+spaced-rows : (F : Frame) (b : ℕ) → blockOf F b .spaced ≡ true → blockOf F b .rows ≡ F .sf - 2
+unfolding blockOf firstBlock rowsOfFirst rowsOfLater
+spaced-rows F zero e = refl
+spaced-rows F (suc b) e = rw e
+
+-- a symbol that arrives beside its mark at that spacing, or else as sent, is read as the word it was made of
+read-beside : (sf rows : ℕ) (wide : Bool) (c : ℕ → ℕ) (j arrived : ℕ) (d : ℤ) → 2 ≤ sf
+    → (wide ≡ true → (rows ≡ sf - 2) × Small d × (arrived ≡ moved (2 ^ sf) (symbolOfCodewords rows wide c j) d))
+    → (wide ≡ false → arrived ≡ symbolOfCodewords rows wide c j)
+    → wordOfNumber rows wide arrived ≡ wordOfCodewords rows c j
+read-beside sf rows false c j arrived d two near as-sent = ap (wordOfNumber rows false) (as-sent refl) ∙ read-symbol rows false c j
+read-beside sf rows true c j arrived d two near as-sent =
+    let (e, small, is) = near refl in
+    rw (is, e) (read-moved sf two c j d small)
+
+module _ {d : ℕ → ℤ} {s : Settings} {payload old sent : List ℕ} {count : ℕ} {arrived buffer buffer′ : List ℕ} {answer : Received}
+    (p : Passed s payload old sent count arrived buffer buffer′ answer) (near : Drifted d s sent count arrived) where
+  two : 2 ≤ s .sf
+  two = omega (arith, sender p .valid .sf-low)
+
+  -- symbol j of block b is one of the frame's, with the block's spacing, and was made of the block's codewords
+  module _ (b j : ℕ) (h : b ≤ laterBlocks (frameOf s) (readWords s payload)) (l : j < 4 + blockAt s b .rate) where
+    inside : blockAt s b .symbol + j < count
+    unfolding blockAt readWords symbolsOf
+    inside = omega (arith, counts p, symbols-below (frameOf s) (sender p .valid) (readWords s payload) b h)
+
+    spacing : isSpaced s (blockAt s b .symbol + j) ≡ blockAt s b .spaced
+    unfolding isSpaced blockAt
+    spacing = ap (λ (x : ℕ). blockOf (frameOf s) x .spaced) (symbol-in (frameOf s) (sender p .valid) b j (omega arith))
+
+    was-sent : getD sent (blockAt s b .symbol + j) 0
+        ≡ symbolOfCodewords (blockAt s b .rows) (blockAt s b .spaced) (codewordInBlock (blockAt s b) (sentNibble s payload)) j
+    unfolding symbolInBlock
+    was-sent = sent-in-block s payload sent arrived (sender p) (λ t k. frame-cells s payload old sent count (p .coded) t (omega (arith, counts p))) b j h l
+
+    -- as it arrives it is read as the word it was made of
+    word-back : wordOfNumber (blockAt s b .rows) (blockAt s b .spaced) (getD arrived (blockAt s b .symbol + j) 0)
+        ≡ wordOfCodewords (blockAt s b .rows) (codewordInBlock (blockAt s b) (sentNibble s payload)) j
+    unfolding blockAt
+    word-back =
+        let t : ℕ = blockOf (frameOf s) b .symbol + j in
+        read-beside (s .sf) _ _ _ j _ (d t) two
+        (λ e. let (small, is) = near .near t inside (spacing ∙ e) in
+        (spaced-rows (frameOf s) b e, small, is ∙ ap (λ (x : ℕ). moved (2 ^ (s .sf)) x (d t)) was-sent))
+        (λ e. near .others t inside (spacing ∙ e) ∙ was-sent)
+
+  -- no codeword that is read has a changed bit
+  none : (i : ℕ) → i < readWords s payload → changedBits s payload arrived i ≡ 0
+  unfolding symbolWord madeOf blockFor
+  none i h =
+      none-changed s payload arrived (sender p) i
+      (λ j l. word-back (blockOfCodeword (frameOf s) i) j (block-of-read (frameOf s) (sender p .valid) i (readWords s payload) h) l)
+
+  -- the first symbol's drift is the distance at which it arrived
+  first-drift : driftOf (s .sf) (getD arrived 0 0) ≡ d 0
+  unfolding isSpaced blockAt blockOfSymbol blockOf firstBlock rowsOfFirst
+  first-drift =
+      let eight = symbols-ge (frameOf s) (length payload) in
+      let (small, is) = near .near 0 (omega (arith, counts p, eight)) refl in
+      let own = was-sent 0 0 (omega arith) (omega arith) in
+      ap (driftOf (s .sf)) (is ∙ ap (λ (x : ℕ). moved (2 ^ (s .sf)) x (d 0)) own) ∙ drift-of-symbol (s .sf) two _ 0 (d 0) small
+
+  pub read-clean : (answer ≡ Payload (record { length = length payload; cr = s .cr; checked = s .checked; symbols = count; repairs = 0; drift = d 0 }))
+      × (buffer′ ≡ payload ++ drop (length payload) buffer)
+  read-clean =
+      let r = never (answered-by p (λ _. false) (λ i h. clean p _ i refl (none i h))) in
+      let repairs = howMany-none (hurt s payload arrived) (readWords s payload) (λ i h. hurt-none s payload arrived i (none i h)) in
+      let says : ℕ → ℤ → Received
+      = λ n x. Payload (record { length = length payload; cr = s .cr; checked = s .checked; symbols = count; repairs = n; drift = x }) in
+      (r .says ∙ ap₂ says repairs first-drift, r .cells)
+
+-- A frame whose symbols at the four-wide spacing each arrive -2 to +1 from what was sent, the others as sent, is read with no
+-- repairs, and its drift is the first one's.
+pub drifted : (d : ℕ → ℤ) (s : Settings) (payload old sent : List ℕ) (count : ℕ) (arrived buffer buffer′ : List ℕ) (answer : Received)
+    → Bytes payload
+    → Coding s payload old sent (Symbols count)
+    → count ≤ length arrived
+    → Drifted d s sent count arrived
+    → length payload ≤ length buffer
+    → Reading (s .sf) (s .low) arrived buffer buffer′ answer
+    → (answer ≡ Payload (record { length = length payload; cr = s .cr; checked = s .checked; symbols = count; repairs = 0; drift = d 0 }))
+    × (buffer′ ≡ payload ++ drop (length payload) buffer)
+drifted d s payload old sent count arrived buffer buffer′ answer bytes c enough near room read =
+    read-clean (record { bytes = bytes; coded = c; enough = enough; below = below; room = room; read = read }) near
+  where
+    by : (t : ℕ) → t < count → (w : Bool) → isSpaced s t ≡ w → getD arrived t 0 < 2 ^ (s .sf)
+    by t h true e = rw (near .near t h e .1) (moved-below _ _ _ (pow-pos (s .sf)))
+    by t h false e = rw (near .others t h e) (below-limit c t h)
+
+    below : (t : ℕ) → t < count → getD arrived t 0 < 2 ^ (s .sf)
+    below t h = by t h (isSpaced s t) refl
+
+-- The mark is 4 x the value, and the drift is the only number from -2 to +1 with mark + drift = number mod 2^SF.
+pub drift-is : (sf s : ℕ) → 2 ≤ sf → s < 2 ^ sf
+    → (markOf sf s ≡ 4 * valueOfNumber (sf - 2) true s) × IsDrift sf (markOf sf s) s (driftOf sf s)
+    × ((d : ℤ) → IsDrift sf (markOf sf s) s d → d ≡ driftOf sf s)
+unfolding markOf numberOfValue
+drift-is sf s two below = (
+  refl,
+  record { small = drift-small sf two s below; leads = drift-moves sf two s below },
+  λ d is. drift-only sf two s below d (is .small) (is .leads),
+)
+
+-- Every accepted frame is answered with the drift of its first symbol.
+pub accepted-drift : (sf : ℕ) (low : Bool) (symbols old new : List ℕ) (a : Accepted) → Reading sf low symbols old new (Payload a)
+    → (7 ≤ sf) × (getD symbols 0 0 < 2 ^ sf) × (a .drift ≡ driftOf sf (getD symbols 0 0))
+accepted-drift sf low symbols old new a r =
+    let k = accepts sf low symbols (length old) a (sym (r .answer)) in
+    let h = head-sound sf symbols _ (k .head) in
+    (h .sf-low, h .starts, k .drift)

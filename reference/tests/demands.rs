@@ -1,0 +1,164 @@
+//! Demands 2 and 3 and the claim of document 02, Ask 2, tried over every setting
+//! with random payloads, on `plain` and `tuned`.
+
+use reference::cases::{self, blocks, moved};
+use reference::plain;
+use reference::random::Random;
+use reference::tuned;
+use reference::types::{Header, Read, Received, Refusal, Settings};
+use reference::{MOST_BYTES, MOST_SYMBOLS};
+
+/// Frames of each setting.
+const TIMES: usize = 50;
+
+const READERS: [(&str, Read); 2] = [("plain", plain::read), ("tuned", tuned::read)];
+
+/// A frame as it was sent.
+struct Sent {
+    settings: Settings,
+    payload: Vec<u8>,
+    symbols: Vec<u16>,
+}
+
+impl Sent {
+    fn new(settings: Settings, random: &mut Random) -> Sent {
+        let payload = cases::payload(random);
+        let mut symbols = vec![0; MOST_SYMBOLS];
+        let count = plain::code(&settings, &payload, &mut symbols).unwrap();
+        symbols.truncate(count);
+        Sent {
+            settings,
+            payload,
+            symbols,
+        }
+    }
+
+    /// What reading answers for an unharmed frame whose first symbol has drifted.
+    fn unharmed(&self, drift: i8) -> Received {
+        Received {
+            header: Header {
+                length: self.payload.len(),
+                cr: self.settings.cr,
+                checksum: self.settings.checksum,
+            },
+            symbols: self.symbols.len(),
+            repairs: 0,
+            drift,
+        }
+    }
+
+    /// What a reader makes of the symbols that arrived. If it accepts them, the
+    /// payload must be the sent one.
+    fn arrived(&self, read: Read, symbols: &[u16]) -> Result<Received, Refusal> {
+        let mut out = [0; MOST_BYTES];
+        let Settings { sf, low, .. } = self.settings;
+        let received = read(sf, low, symbols, &mut out)?;
+        assert_eq!(out[..received.header.length], self.payload, "{symbols:?}");
+        Ok(received)
+    }
+
+    /// How many symbols, from the first on, have the four-wide spacing.
+    fn four_wide(&self) -> usize {
+        if self.settings.low {
+            self.symbols.len()
+        } else {
+            8
+        }
+    }
+}
+
+/// Frames of every setting.
+fn each_sent(seed: u64, mut try_one: impl FnMut(&Sent, &mut Random)) {
+    let mut random = Random::new(seed);
+    for number in 0..cases::SETTINGS {
+        for _ in 0..TIMES {
+            let sent = Sent::new(cases::settings(number), &mut random);
+            try_one(&sent, &mut random);
+        }
+    }
+}
+
+/// Demand 2.
+#[test]
+fn unharmed_frames_have_no_drift_and_no_repairs() {
+    each_sent(1, |sent, _| {
+        for (name, read) in READERS {
+            let received = sent.arrived(read, &sent.symbols);
+            assert_eq!(received, Ok(sent.unharmed(0)), "{name} {:?}", sent.settings);
+        }
+    });
+}
+
+/// Document 02, Ask 2: each symbol at the four-wide spacing arrives -2 to +1 from
+/// what was sent, the others as sent.
+#[test]
+fn drifted_symbols_need_no_repair() {
+    each_sent(2, |sent, random| {
+        let sf = sent.settings.sf;
+        let steps: Vec<i8> = (0..sent.four_wide())
+            .map(|_| random.pick(&[-2, -1, 0, 1]))
+            .collect();
+        let mut symbols = sent.symbols.clone();
+        for (symbol, &step) in symbols.iter_mut().zip(&steps) {
+            *symbol = moved(*symbol, step, sf);
+        }
+        let wanted = sent.unharmed(steps[0]);
+        for (name, read) in READERS {
+            let received = sent.arrived(read, &symbols);
+            assert_eq!(received, Ok(wanted), "{name} {:?}", sent.settings);
+        }
+        assert_eq!(plain::head(sf, &symbols), Ok(wanted.header));
+    });
+}
+
+/// Changes at most so many symbols in each block to any numbers of the range.
+fn change(sent: &Sent, most: usize, random: &mut Random) -> Vec<u16> {
+    let Settings { sf, cr, .. } = sent.settings;
+    let mut symbols = sent.symbols.clone();
+    for block in blocks(&mut symbols, cr) {
+        for _ in 0..random.below(most + 1) {
+            block[random.below(block.len())] = cases::any_symbol(sf, random);
+        }
+    }
+    symbols
+}
+
+/// The first symbol's drift, which is that of the number that arrived, whatever
+/// was sent.
+fn drift(symbol: u16) -> i8 {
+    [0, 1, -2, -1][usize::from(symbol % 4)]
+}
+
+/// Demand 3, at most one symbol changed in each block.
+#[test]
+fn one_symbol_changed_in_each_block() {
+    each_sent(3, |sent, random| {
+        let symbols = change(sent, 1, random);
+        for (name, read) in READERS {
+            match sent.arrived(read, &symbols) {
+                Ok(received) => assert_eq!(received.drift, drift(symbols[0])),
+                Err(refusal) => {
+                    assert!(sent.settings.cr <= 2, "{name} {:?}", sent.settings);
+                    assert_eq!(refusal.number, 7, "{name} {:?}", sent.settings);
+                }
+            }
+        }
+    });
+}
+
+/// Demand 3, at most two symbols changed in each block at 4/8.
+#[test]
+fn two_symbols_changed_in_each_block() {
+    each_sent(4, |sent, random| {
+        if sent.settings.cr < 4 {
+            return;
+        }
+        let symbols = change(sent, 2, random);
+        for (name, read) in READERS {
+            match sent.arrived(read, &symbols) {
+                Ok(received) => assert_eq!(received.drift, drift(symbols[0])),
+                Err(refusal) => assert_eq!(refusal.number, 7, "{name} {:?}", sent.settings),
+            }
+        }
+    });
+}
