@@ -2,7 +2,7 @@
 //! with random payloads, on `plain` and `tuned`.
 
 use reference::cases::{self, blocks, moved};
-use reference::plain;
+use reference::plain::{self, block::Block};
 use reference::random::Random;
 use reference::tuned;
 use reference::types::{Header, Read, Received, Refusal, Settings};
@@ -123,30 +123,76 @@ fn change(sent: &Sent, most: usize, random: &mut Random) -> Vec<u16> {
     symbols
 }
 
+/// The words that a frame's blocks carry, in frame order, those that are read.
+fn words(sent: &Sent, symbols: &[u16]) -> Vec<u8> {
+    let Settings {
+        sf,
+        low,
+        cr,
+        checksum,
+    } = sent.settings;
+    let later = Block::later(sf, low, cr);
+    let mut words = Block::first(sf).words(&symbols[..8]);
+    for block in symbols[8..].chunks(later.width()) {
+        words.extend(later.words(block));
+    }
+    words.truncate(5 + 2 * sent.payload.len() + if checksum { 4 } else { 0 });
+    words
+}
+
+/// The bits of each codeword read that the changes turned.
+fn changed_bits(sent: &Sent, arrived: &[u16]) -> Vec<u32> {
+    let (sent_words, arrived_words) = (words(sent, &sent.symbols), words(sent, arrived));
+    sent_words
+        .iter()
+        .zip(arrived_words)
+        .map(|(sent, arrived)| (sent ^ arrived).count_ones())
+        .collect()
+}
+
 /// The first symbol's drift, which is that of the number that arrived, whatever
 /// was sent.
 fn drift(symbol: u16) -> i8 {
     [0, 1, -2, -1][usize::from(symbol % 4)]
 }
 
-/// Demand 3, at most one symbol changed in each block.
+/// What demand 3 says: refusal 7 at the first codeword that the test, given its
+/// number and its changed bits, finds lost; else the payload, with a repair for
+/// each codeword that has a changed bit.
+fn demanded(
+    sent: &Sent,
+    arrived: &[u16],
+    lost: impl Fn(usize, u32) -> bool,
+) -> Result<Received, Refusal> {
+    let bits = changed_bits(sent, arrived);
+    match (0..bits.len()).find(|&i| lost(i, bits[i])) {
+        Some(place) => Err(Refusal { number: 7, place }),
+        None => Ok(Received {
+            repairs: bits.iter().filter(|&&bits| bits > 0).count(),
+            ..sent.unharmed(drift(arrived[0]))
+        }),
+    }
+}
+
+/// Demand 3, at most one symbol changed in each block: 4/7 and 4/8 return the
+/// payload; 4/5 and 4/6 refuse exactly when a codeword read after block 0 has a
+/// changed bit.
 #[test]
 fn one_symbol_changed_in_each_block() {
     each_sent(3, |sent, random| {
         let symbols = change(sent, 1, random);
+        let Settings { sf, cr, .. } = sent.settings;
+        let first = usize::from(sf) - 2;
+        let wanted = demanded(sent, &symbols, |i, bits| cr <= 2 && i >= first && bits > 0);
         for (name, read) in READERS {
-            match sent.arrived(read, &symbols) {
-                Ok(received) => assert_eq!(received.drift, drift(symbols[0])),
-                Err(refusal) => {
-                    assert!(sent.settings.cr <= 2, "{name} {:?}", sent.settings);
-                    assert_eq!(refusal.number, 7, "{name} {:?}", sent.settings);
-                }
-            }
+            let received = sent.arrived(read, &symbols);
+            assert_eq!(received, wanted, "{name} {:?}", sent.settings);
         }
     });
 }
 
-/// Demand 3, at most two symbols changed in each block at 4/8.
+/// Demand 3, at most two symbols changed in each block at 4/8: refused exactly
+/// when a codeword that is read has two bits changed.
 #[test]
 fn two_symbols_changed_in_each_block() {
     each_sent(4, |sent, random| {
@@ -154,11 +200,10 @@ fn two_symbols_changed_in_each_block() {
             return;
         }
         let symbols = change(sent, 2, random);
+        let wanted = demanded(sent, &symbols, |_, bits| bits == 2);
         for (name, read) in READERS {
-            match sent.arrived(read, &symbols) {
-                Ok(received) => assert_eq!(received.drift, drift(symbols[0])),
-                Err(refusal) => assert_eq!(refusal.number, 7, "{name} {:?}", sent.settings),
-            }
+            let received = sent.arrived(read, &symbols);
+            assert_eq!(received, wanted, "{name} {:?}", sent.settings);
         }
     });
 }

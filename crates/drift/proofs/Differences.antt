@@ -52,5 +52,5 @@ module _ (a b : ℕ) (ha : a < 32768) (hb : b < 32768) where
   pub taken-fits : SFits w16 (toZ w16 a -ℤ toZ w16 b)
   taken-fits = rw taken (sfits-of (near a b 32768 (omega arith) (omega arith)))
 
-  pub narrow-fits : a ≤ b + 1 → b ≤ a + 2 → SFits w8 (pos a -ℤ pos b)
-  narrow-fits h l = sfits-of (near a b 128 (omega arith) (omega arith))
+pub narrow-fits : (a b : ℕ) → a < b + 128 → b < a + 128 → SFits w8 (pos a -ℤ pos b)
+narrow-fits a b h l = sfits-of (near a b 128 h l)

@@ -33,20 +33,20 @@ use Rattle.lora.specs.declared.Heading.{Heading}
 use Rattle.lora.specs.declared.Heading.the-variants.{Says, Refused}
 use Rattle.lora.proofs.CountLaws.{sf-valid}
 
--- where head says a header: the spreading factor, the length and the rate are in range, and the first symbol is below 2^SF
+-- where head says a header: the spreading factor, the length and the rate are in range, and the first eight symbols are below 2^SF
 pub record Heads (sf : ℕ) (symbols : List ℕ) (h : Header) : Type 0 where
   pub sf-low : 7 ≤ sf
   pub sf-high : sf ≤ 12
   pub short : h .length ≤ 255
   pub cr-low : 1 ≤ h .cr
   pub cr-high : h .cr ≤ 4
-  pub starts : getD symbols 0 0 < 2 ^ sf
+  pub starts : (t : ℕ) → t < 8 → getD symbols t 0 < 2 ^ sf
 
 module _ (sf : ℕ) (symbols : List ℕ) where
-  -- where none of the first eight symbols is 2^SF or more, the first is below
-  first-below : 8 ≤ firstOver sf symbols 8 0 → getD symbols 0 0 < 2 ^ sf
+  -- where none of the first eight symbols is 2^SF or more, each is below
+  eight-below : 8 ≤ firstOver sf symbols 8 0 → (t : ℕ) → t < 8 → getD symbols t 0 < 2 ^ sf
   unfolding firstOver isOver
-  first-below h = leb-false (2 ^ sf) (getD symbols 0 0) (first-before (isOver sf symbols) 8 0 0 (omega arith) (omega arith))
+  eight-below h t l = leb-false (2 ^ sf) (getD symbols t 0) (first-before (isOver sf symbols) 8 0 t (omega arith) (omega arith))
 
   -- what the header's codewords are read as are nibbles
   header-small : (i : ℕ) → nibbleAt (headerFound sf symbols) i < 16
@@ -84,7 +84,7 @@ module _ (sf : ℕ) (symbols : List ℕ) where
   head-sound h =
       head-cases (λ r. r ≡ Says h → Heads sf symbols h) other other other (λ low l. other) λ low high none e.
       let (x, y, z) = said-range h e in
-      record { sf-low = low; sf-high = high; short = omega arith; cr-low = y; cr-high = z; starts = first-below none }
+      record { sf-low = low; sf-high = high; short = omega arith; cr-low = y; cr-high = z; starts = eight-below none }
     where
       other : {number place : ℕ} → Refused number place ≡ Says h → Heads sf symbols h
       other e = absurd (let z : _≡_ {A = ℕ} 0 1 = cc in omega arith)

@@ -37,12 +37,12 @@ pub record Opening (found : ℕ → Found) (heading : Heading) (repairs : ℕ) :
   pub says : heading ≡ headerOf found
   pub counts : (h : Header) → heading ≡ Says h → repairs ≡ howMany (repairedAt found) 5
 
--- a header was read: the frame that it says is valid, its first symbol is below 2^SF, block 0 is in the grid, and its repairs
+-- a header was read: the frame that it says is valid, its first eight symbols are below 2^SF, block 0 is in the grid, and its repairs
 -- are counted
 pub record Headed (F : Frame) (symbols : List ℕ) (len : ℕ) (grid : List (List Bool)) (repairs : ℕ) : Type 0 where
   pub valid : Valid F
   pub short : len ≤ 255
-  pub starts : getD symbols 0 0 < 2 ^ F .sf
+  pub starts : (t : ℕ) → t < 8 → getD symbols t 0 < 2 ^ F .sf
   pub first : grid ≡ gridOfSymbols (firstBlock (F .sf)) symbols
   pub counts : repairs ≡ howMany (repairedAt (foundAt F symbols)) (F .header)
 

@@ -2,10 +2,10 @@
 -- Assumes nothing.
 use mathlib.Core.Path.{_≡_, refl, sym, ap, ap₂, _∙_}
 use mathlib.Core.Bool.{Bool, true, false}
-use mathlib.Core.List.{List, _++_}
+use mathlib.Core.List.{List, [], _∷_, _++_}
 use Prim.Native.Nat.{ℕ, zero, suc, _+_, _-_, _*_, _^_, _≤_, _<_}
 use native.Mathlib.Omega.{arith}
-use lib.IntN.{ℤ}
+use lib.IntN.{ℤ, pos, negsuc}
 use lib.ListN.{length, getD, drop}
 use lib.Pow.{pow-pos}
 use Rattle.bits.specs.Tab.{Bytes}
@@ -14,10 +14,9 @@ use Rattle.block.specs.Block.{symbolOfCodewords, wordOfCodewords, wordOfNumber}
 use Rattle.block.specs.Gray.{numberOfValue, valueOfNumber}
 use Rattle.block.proofs.BlockLaws.{read-symbol}
 use Rattle.coding.specs.Symbols.{codewordInBlock, symbolInBlock}
-use Rattle.drift.specs.Drift.{moved, markOf, driftOf, Small}
+use Rattle.drift.specs.Drift.{stepsUp, distance, moved, markOf, driftOf, Small}
 use Rattle.drift.proofs.DriftLaws.{read-moved, drift-of-symbol, drift-small, drift-moves, drift-only, moved-below}
 use Rattle.layout.specs.Layout.{rowsOfFirst, rowsOfLater, firstBlock, blockOf, blockOfSymbol, blockOfCodeword, laterBlocks, symbolsOf}
-use Rattle.layout.specs.declared.Block.{Block}
 use Rattle.layout.specs.declared.Frame.{Frame}
 use Rattle.layout.proofs.LayoutLaws.{block-of-read, symbol-in, symbols-below, symbols-ge}
 use Rattle.lora.specs.Code.{sentNibble, Coding}
@@ -33,7 +32,7 @@ use Rattle.lora.proofs.HeadLaws.{head-sound}
 use Rattle.reading.specs.Stages.{symbolWord}
 use Rattle.promises.specs.Damage.{readWords, blockAt, blockFor, changedBits, Passed, hurt}
 use Rattle.promises.specs.Drifted.{isSpaced, Drifted, IsDrift}
-use Rattle.promises.proofs.Near.{Sent, madeOf, none-changed, sent-in-block}
+use Rattle.promises.proofs.Near.{madeOf, none-changed, sent-in-block}
 use Rattle.promises.proofs.Answers.{never}
 use Rattle.promises.proofs.Codewords.{sender, counts, frame-cells, answered-by, clean, hurt-none}
 use Rattle.promises.proofs.Unchanged.{below-limit}
@@ -142,10 +141,16 @@ drift-is sf s two below = (
   λ d is. drift-only sf two s below d (is .small) (is .leads),
 )
 
+-- The request's rows, at SF 7: the numbers 123, 126, 127, 0 and 1, their marks and their drifts.
+pub rows : (markOf 7 123 ∷ markOf 7 126 ∷ markOf 7 127 ∷ markOf 7 0 ∷ markOf 7 1 ∷ [] ≡ 124 ∷ 0 ∷ 0 ∷ 0 ∷ 0 ∷ [])
+    × (driftOf 7 123 ∷ driftOf 7 126 ∷ driftOf 7 127 ∷ driftOf 7 0 ∷ driftOf 7 1 ∷ [] ≡ negsuc 0 ∷ negsuc 1 ∷ negsuc 0 ∷ pos 0 ∷ pos 1 ∷ [])
+unfolding markOf driftOf distance stepsUp numberOfValue valueOfNumber
+rows = (refl, refl)
+
 -- Every accepted frame is answered with the drift of its first symbol.
 pub accepted-drift : (sf : ℕ) (low : Bool) (symbols old new : List ℕ) (a : Accepted) → Reading sf low symbols old new (Payload a)
     → (7 ≤ sf) × (getD symbols 0 0 < 2 ^ sf) × (a .drift ≡ driftOf sf (getD symbols 0 0))
 accepted-drift sf low symbols old new a r =
     let k = accepts sf low symbols (length old) a (sym (r .answer)) in
     let h = head-sound sf symbols _ (k .head) in
-    (h .sf-low, h .starts, k .drift)
+    (h .sf-low, h .starts 0 (omega arith), k .drift)

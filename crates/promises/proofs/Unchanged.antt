@@ -1,25 +1,19 @@
 -- A frame's symbols as they were written, whatever follows them, have no change.
 -- Assumes nothing.
-use mathlib.Core.Path.{_≡_, sym, ap, _∙_}
-use mathlib.Core.Bool.{not}
+use mathlib.Core.Path.{_≡_, sym, _∙_}
 use mathlib.Core.List.{List, _++_}
 use Prim.Native.Nat.{ℕ, _+_, _^_, _≤_, _<_}
 use native.Mathlib.Omega.{arith}
 use lib.ListN.{length, getD, take, drop, length-append, List·getD-append}
 use lib.Seq.{take-at}
-use borrow.Author.Tests.{eq-eqb}
 use Rattle.bits.specs.Tab.{tab}
-use Rattle.bits.proofs.Searches.{howMany-none}
 use Rattle.bits.proofs.Tabs.{length-tab, getD-tab}
 use Rattle.coding.proofs.CodingLaws.{symbol-below}
-use Rattle.layout.specs.Layout.{symbolsOf}
-use Rattle.layout.proofs.LayoutLaws.{symbols-below}
 use Rattle.lora.specs.Code.{sentSymbol, Coding}
 use Rattle.lora.specs.Count.{frameOf}
 use Rattle.lora.specs.declared.Settings.{Settings}
 use Rattle.lora.specs.declared.Counted.the-variants.{Symbols}
 use Rattle.lora.proofs.CountLaws.{coded}
-use Rattle.promises.specs.Damage.{readWords, blockAt, changedSymbols, FewSymbols}
 use Rattle.promises.proofs.Codewords.{frame-cells}
 
 module _ {s : Settings} {payload old sent : List ℕ} {count : ℕ} (c : Coding s payload old sent (Symbols count)) where

@@ -6,7 +6,7 @@ use lib.IntN.{pos, _-ℤ_}
 use lib.Pow.{pow-mono}
 use mir.Facts.{toZ-ofZ}
 use mir.Syntax.{w8}
-use Rattle.drift.specs.Drift.{markOf, driftOf}
+use Rattle.drift.specs.Drift.{driftOf}
 use Rattle.drift.proofs.DriftLaws.{mark-below, beside, past}
 use borrow.Author.Needs.{needs, sfits-of}
 use Rattle.drift.proofs.drift_of_number.Statement.{statement}

@@ -1,12 +1,15 @@
 -- The data codewords read; then 7, 12, or the payload.
-use mathlib.Core.Path.{refl, sym, _∙_}
+use mathlib.Core.Path.{_≡_, refl, sym, _∙_}
 use Prim.Native.Nat.{_+_, _≤_}
 use native.Mathlib.Omega.{arith}
+use lib.ListN.{getD}
 use borrow.Author.Tests.{not-true, not-false}
 use denote.Ref.{now}
 use mir.Facts.{toZ-ofZ}
 use mir.Syntax.{w8}
+use mir.Val.{toZ, ofZ}
 use Rattle.bits.specs.Tab.{blank}
+use Rattle.drift.specs.Drift.{driftOf}
 use Rattle.layout.specs.Layout.{nibblesOf, symbolsOf}
 use Rattle.layout.proofs.LayoutLaws.{data-le, nibbles-le, symbols-ge}
 use Rattle.lora.proofs.ReadLaws.{Run, data-is, whole-is, run-le, run-few, run-small, run-payload, says-unreadable, says-twelve, says-payload}
@@ -110,16 +113,23 @@ shared-slice-read-drift-of-number c =
     omega (arith, s .pre .1 .whole, s .pre .1 .there, symbols-ge (s .args .f) (s .args .len))
 
 drift-of-number-requires : tie.Need-drift-of-number-requires
-drift-of-number-requires c κs = search needs
+drift-of-number-requires c κs =
+    let p = c .before .before .before .before .before in
+    let h = start (p .before .before .before .before) .pre .1 .headed in
+    (h .valid .sf-low, h .valid .sf-high, h .starts 0 (omega arith))
+
+-- the first symbol's drift, as it stands in the answer
+first-drift : (c : tie.After-drift-of-number) → let a = start (c .before .before .before .before .before .before .before .before .before .before) .args in
+    toZ w8 (ofZ w8 (c .drift-of-number .result)) ≡ driftOf (a .f .sf) (getD (now (a .symbols)) 0 0)
+first-drift c = toZ-ofZ {w = w8} (sfits-of (c .drift-of-number .ok)) ∙ c .drift-of-number .ensures
 
 returns-3 : tie.Need-returns-3
 returns-3 c =
     let p = c .before .before .before .before .before .before in
     let e = p .before .before in
     let w = run (e .before .before) in
-    let drift = toZ-ofZ {w = w8} (sfits-of (c .drift-of-number .ok)) ∙ c .drift-of-number .ensures in
     record {
-      says = rw (start (e .before .before) .pre .1 .whole) (says-payload w _ (blank 255 0) drift (whole e) (p .payload-of-nibbles .ensures) (sym (c .before .before .before .before .sum-holds .ensures) ∙ not-false _ (c .before .before .before .if2 .left)));
+      says = rw (start (e .before .before) .pre .1 .whole) (says-payload w _ (blank 255 0) (first-drift c) (whole e) (p .payload-of-nibbles .ensures) (sym (c .before .before .before .before .sum-holds .ensures) ∙ not-false _ (c .before .before .before .if2 .left)));
       held = p .payload-of-nibbles .ensures ∙ run-payload w (whole e) (blank 255 0);
     }
 
