@@ -1,5 +1,5 @@
 -- Document 02, Ask 2: how far a symbol at the four-wide spacing is off its mark. There the 2^SF numbers stand on a circle,
--- the ends of the range being neighbours, and every fourth is a mark.
+-- the ends of the range being neighbours, and every fourth is a mark. Of signed numbers `pos n` is n and `negsuc n` is -(n + 1).
 -- Assumes nothing.
 use mathlib.Core.Bool.{true, cond}
 use Prim.Native.Nat.{ℕ, suc, _+_, _-_, _*_, _%_, _^_}
@@ -16,7 +16,7 @@ stepsUp c m s = (s + c - m) % c
 unfoldable pub distance : ℕ → ℕ → ℕ → ℤ
 distance c m s = cond (ltb (2 * stepsUp c m s) c) (pos (stepsUp c m s)) (pos (stepsUp c m s) -ℤ pos c)
 
--- the number that is d from m
+-- the number that is d from m: m + d mod c
 unfoldable pub moved : ℕ → ℕ → ℤ → ℕ
 moved c m (pos d) = (m + d) % c
 moved c m (negsuc d) = (m + c - suc d % c) % c
