@@ -89,32 +89,44 @@ fn unharmed_frames_have_no_drift_and_no_repairs() {
     });
 }
 
+/// The frame with each symbol at the four-wide spacing -2 to +1 from what was
+/// sent, and how far the first one is.
+fn drifted(sent: &Sent, random: &mut Random) -> (Vec<u16>, i8) {
+    let steps: Vec<i8> = (0..sent.four_wide())
+        .map(|_| random.pick(&[-2, -1, 0, 1]))
+        .collect();
+    let mut symbols = sent.symbols.clone();
+    for (symbol, &step) in symbols.iter_mut().zip(&steps) {
+        *symbol = moved(*symbol, step, sent.settings.sf);
+    }
+    (symbols, steps[0])
+}
+
 /// Document 02, Ask 2: each symbol at the four-wide spacing arrives -2 to +1 from
 /// what was sent, the others as sent.
 #[test]
 fn drifted_symbols_need_no_repair() {
     each_sent(2, |sent, random| {
-        let sf = sent.settings.sf;
-        let steps: Vec<i8> = (0..sent.four_wide())
-            .map(|_| random.pick(&[-2, -1, 0, 1]))
-            .collect();
-        let mut symbols = sent.symbols.clone();
-        for (symbol, &step) in symbols.iter_mut().zip(&steps) {
-            *symbol = moved(*symbol, step, sf);
-        }
-        let wanted = sent.unharmed(steps[0]);
+        let (symbols, drift) = drifted(sent, random);
+        let wanted = sent.unharmed(drift);
         for (name, read) in READERS {
             let received = sent.arrived(read, &symbols);
             assert_eq!(received, Ok(wanted), "{name} {:?}", sent.settings);
         }
-        assert_eq!(plain::head(sf, &symbols), Ok(wanted.header));
+        assert_eq!(plain::head(sent.settings.sf, &symbols), Ok(wanted.header));
     });
 }
 
-/// Changes at most so many symbols in each block to any numbers of the range.
+/// Changes at most so many symbols in each block to any numbers of the range. In
+/// every other frame those at the four-wide spacing have drifted besides, which
+/// leaves their values.
 fn change(sent: &Sent, most: usize, random: &mut Random) -> Vec<u16> {
     let Settings { sf, cr, .. } = sent.settings;
-    let mut symbols = sent.symbols.clone();
+    let mut symbols = if random.flag() {
+        drifted(sent, random).0
+    } else {
+        sent.symbols.clone()
+    };
     for block in blocks(&mut symbols, cr) {
         for _ in 0..random.below(most + 1) {
             block[random.below(block.len())] = cases::any_symbol(sf, random);

@@ -15,7 +15,7 @@ use Rattle.bits.proofs.Bits.{bit-lt, bit-number, number-lt, number-cong, asBit-
 use Rattle.bits.proofs.Searches.{first-is, howMany-mono}
 use Rattle.bits.proofs.Tabs.{getD-over}
 use Rattle.bits.proofs.Turns.{turn, turn-back}
-use Rattle.block.specs.Gray.{valueOfWord, valueOfNumber}
+use Rattle.block.specs.Gray.{wordOfValue, valueOfNumber}
 use Rattle.block.specs.Block.{wordOfCodewords, symbolOfCodewords, placeInWord, wordOfNumber, received}
 use Rattle.block.specs.Grid.{row, grid, cell, wordOfGrid, gridOfWords, codewordOfGrid}
 use Rattle.block.proofs.GrayLaws.{word-of-value-of-word, value-lt, value-of-number-of-value, number-of-value-lt}
@@ -54,16 +54,11 @@ place-turn n i j h = rw (place-is n i j h) (turn n i j h)
 pub place-lt : (n i j : ℕ) → i < n → placeInWord n i j < n
 place-lt n i j h = rw (place-is n i j h) (mod-lt (i + n - j % n) (omega arith))
 
--- a number with the value of a symbol word is read as that word
-pub read-value : (n : ℕ) (wide : Bool) (c : ℕ → ℕ) (j s : ℕ) → valueOfNumber n wide s ≡ valueOfWord n (wordOfCodewords n c j)
-    → wordOfNumber n wide s ≡ wordOfCodewords n c j
-unfolding wordOfNumber
-read-value n wide c j s e = rw e (word-of-value-of-word n (wordOfCodewords n c j) (word-of-codewords-lt n c j))
-
--- so is the number that was sent
-pub read-symbol : (n : ℕ) (wide : Bool) (c : ℕ → ℕ) (j : ℕ) → wordOfNumber n wide (symbolOfCodewords n wide c j) ≡ wordOfCodewords n c j
-unfolding symbolOfCodewords
-read-symbol n wide c j = read-value n wide c j _ (value-of-number-of-value n wide _ (value-lt n (wordOfCodewords n c j)))
+-- what is read from a symbol that came through is the word it was made of
+read-symbol : (n : ℕ) (wide : Bool) (c : ℕ → ℕ) (j : ℕ) → wordOfNumber n wide (symbolOfCodewords n wide c j) ≡ wordOfCodewords n c j
+unfolding wordOfNumber symbolOfCodewords
+read-symbol n wide c j =
+    rw (value-of-number-of-value n wide _ (value-lt n (wordOfCodewords n c j))) (word-of-value-of-word n (wordOfCodewords n c j) (word-of-codewords-lt n c j))
 
 -- bit j of codeword i, where it stands in symbol word j
 pub word-bit : (n : ℕ) (c : ℕ → ℕ) (i j : ℕ) → i < n → bit (placeInWord n i j) (wordOfCodewords n c j) ≡ bit j (c i)
@@ -76,11 +71,13 @@ pub bit-received : (n columns : ℕ) (wide : Bool) (s : ℕ → ℕ) (i j : ℕ)
 unfolding received
 bit-received n columns wide s i j h = bit-number columns _ (λ k. bit-lt _ _) j h
 
--- damage is local: a symbol that is read as the word it was made of gives its bit of every codeword
-pub local : (n columns : ℕ) (wide : Bool) (c s : ℕ → ℕ) (i j : ℕ) → i < n → j < columns → wordOfNumber n wide (s j) ≡ wordOfCodewords n c j
-    → bit j (received n columns wide s i) ≡ bit j (c i)
+-- damage is local: a symbol with the value that was sent gives its bit of every codeword
+pub local : (n columns : ℕ) (wide : Bool) (c s : ℕ → ℕ) (i j : ℕ) → i < n → j < columns
+    → valueOfNumber n wide (s j) ≡ valueOfNumber n wide (symbolOfCodewords n wide c j) → bit j (received n columns wide s i) ≡ bit j (c i)
+unfolding wordOfNumber
 local n columns wide c s i j hi hj e =
-    bit-received n columns wide s i j hj ∙ rw e (word-bit n c i j hi)
+    let word : wordOfNumber n wide (s j) ≡ wordOfCodewords n c j = ap wordOfValue e ∙ read-symbol n wide c j in
+    bit-received n columns wide s i j hj ∙ rw word (word-bit n c i j hi)
 
 -- a received codeword has as many bits as there are columns
 pub received-lt : (n columns : ℕ) (wide : Bool) (s : ℕ → ℕ) (i : ℕ) → received n columns wide s i < 2 ^ columns
@@ -108,23 +105,15 @@ codeword-through-grid n columns wide s ws i most hi e =
     number-cong columns _ _ (λ j h. ap asBit (cell-grid n 8 _ i j hi (omega arith)) ∙ asBit-isSet _ (bit-lt (placeInWord n i j) _) ∙ ap (bit (placeInWord n i j)) (e j h))
 
 -- if equal x and y make a and b equal, then unequal a and b make x and y unequal
-not-eqb-mono : (a b x y : ℕ) → (x ≡ y → a ≡ b) → not (eqb a b) ≡ true → not (eqb x y) ≡ true
+pub not-eqb-mono : (a b x y : ℕ) → (x ≡ y → a ≡ b) → not (eqb a b) ≡ true → not (eqb x y) ≡ true
 not-eqb-mono a b x y f = go (eqb x y) refl
   where
     go : (q : Bool) → eqb x y ≡ q → not (eqb a b) ≡ true → not q ≡ true
     go false e t = refl
     go true e t = rw (eq-eqb a b (f (eqb-true x y e))) at t
 
--- however many symbols are read as other words, each codeword has at most so many wrong bits
+-- however many symbols change their values, each codeword has at most so many wrong bits
 pub wrong-bits : (n columns : ℕ) (wide : Bool) (c s : ℕ → ℕ) (i : ℕ) → i < n
     → howMany (λ j. not (eqb (bit j (received n columns wide s i)) (bit j (c i)))) columns
-    ≤ howMany (λ j. not (eqb (wordOfNumber n wide (s j)) (wordOfCodewords n c j))) columns
-wrong-bits n columns wide c s i hi =
-    howMany-mono _ _ columns (λ j hj. not-eqb-mono _ _ (wordOfNumber n wide (s j)) (wordOfCodewords n c j) (local n columns wide c s i j hi hj))
-
--- and no more symbols are than changed
-pub wrong-words : (n columns : ℕ) (wide : Bool) (c s : ℕ → ℕ)
-    → howMany (λ j. not (eqb (wordOfNumber n wide (s j)) (wordOfCodewords n c j))) columns
-    ≤ howMany (λ j. not (eqb (s j) (symbolOfCodewords n wide c j))) columns
-wrong-words n columns wide c s =
-    howMany-mono _ _ columns (λ j hj. not-eqb-mono _ _ (s j) (symbolOfCodewords n wide c j) (λ e. ap (wordOfNumber n wide) e ∙ read-symbol n wide c j))
+    ≤ howMany (λ j. not (eqb (valueOfNumber n wide (s j)) (valueOfNumber n wide (symbolOfCodewords n wide c j)))) columns
+wrong-bits n columns wide c s i hi = howMany-mono _ _ columns (λ j hj. not-eqb-mono _ _ _ _ (local n columns wide c s i j hi hj))

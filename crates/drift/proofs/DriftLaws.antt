@@ -12,9 +12,8 @@ use lib.IntN.{ℤ, pos, negsuc, _-ℤ_}
 use lib.Pow.{pow-add, pow-pos}
 use borrow.Author.Tests.{lt-ltb, le-ltb}
 use Rattle.block.specs.Gray.{numberOfValue, valueOfNumber}
-use Rattle.block.specs.Block.{symbolOfCodewords, wordOfCodewords, wordOfNumber}
-use Rattle.block.proofs.BlockLaws.{read-value}
-use Rattle.block.proofs.GrayLaws.{value-lt}
+use Rattle.block.specs.Block.{symbolOfCodewords, wordOfCodewords}
+use Rattle.block.proofs.GrayLaws.{value-lt, value-of-number-of-value}
 use Rattle.drift.specs.Drift.{stepsUp, distance, moved, markOf, driftOf, Small}
 use Rattle.drift.proofs.Differences.{minus-up, minus-same}
 
@@ -166,11 +165,14 @@ module _ (sf : ℕ) (two : 2 ≤ sf) where
         let a : ℕ = moved (2 ^ sf) (4 * v) d in
         ap (λ (x : ℕ). distance (2 ^ sf) (4 * x) a) value-of-moved ∙ ap (λ (x : ℕ). distance x (4 * v) a) four ∙ near-distance (at .1) ∙ at .2
 
-  -- a symbol that arrives d from where it was sent, where d is small, is read as the word it was made of, and its drift is d
+  -- a symbol that arrives d from where it was sent, where d is small, has the value that was sent, and its drift is d
   module _ (c : ℕ → ℕ) (j : ℕ) (d : ℤ) (small : Small d) where
-    pub read-moved : wordOfNumber (sf - 2) true (moved (2 ^ sf) (symbolOfCodewords (sf - 2) true c j) d) ≡ wordOfCodewords (sf - 2) c j
+    pub value-of-symbol : valueOfNumber (sf - 2) true (moved (2 ^ sf) (symbolOfCodewords (sf - 2) true c j) d)
+        ≡ valueOfNumber (sf - 2) true (symbolOfCodewords (sf - 2) true c j)
     unfolding symbolOfCodewords numberOfValue
-    read-moved = read-value (sf - 2) true c j _ (value-of-moved _ d (value-lt (sf - 2) (wordOfCodewords (sf - 2) c j)) small)
+    value-of-symbol =
+        let lt = value-lt (sf - 2) (wordOfCodewords (sf - 2) c j) in
+        value-of-moved _ d lt small ∙ sym (value-of-number-of-value (sf - 2) true _ lt)
 
     pub drift-of-symbol : driftOf sf (moved (2 ^ sf) (symbolOfCodewords (sf - 2) true c j) d) ≡ d
     unfolding symbolOfCodewords numberOfValue

@@ -21,8 +21,8 @@ use Rattle.lora.specs.declared.Counted.the-variants.{Symbols}
 use Rattle.lora.specs.declared.Received.{Received}
 use Rattle.lora.proofs.CountLaws.{coded}
 use Rattle.reading.specs.Found.{foundAt}
-use Rattle.promises.specs.Damage.{readWords, blockFor, changedBits, FewSymbols, FewBits, Passed, hurt, hurtAfterFirst, hurtTwice, ReturnedUnless}
-use Rattle.promises.proofs.Near.{Sent, changed-le, found-none, found-repaired, found-unreadable, found-double, rate-in-first, rate-in-later}
+use Rattle.promises.specs.Damage.{readWords, blockFor, changedBits, FewSymbols, FewValues, FewBits, Passed, hurt, hurtAfterFirst, hurtTwice, ReturnedUnless}
+use Rattle.promises.proofs.Near.{Sent, changed-le, values-le, found-none, found-repaired, found-unreadable, found-double, rate-in-first, rate-in-later}
 use Rattle.promises.proofs.Answers.{FoundAs, answered}
 
 -- the cells that code wrote are the frame
@@ -69,8 +69,11 @@ module _ {s : Settings} {payload old sent : List ℕ} {count : ℕ} {arrived buf
   pub counts : count ≡ symbolsOf (frameOf s) (length payload)
   counts = coded s payload (length old) count (sym (c .coded .answer)) .0 .is
 
-  -- a codeword has at most as many changed bits as symbols were changed in a block
-  pub few-bits : {k : ℕ} → FewSymbols k s payload sent arrived → FewBits k s payload arrived
+  -- at most as many symbols of a block have changed values as were changed, and a codeword has at most as many changed bits
+  pub few-values : {k : ℕ} → FewSymbols k s payload sent arrived → FewValues k s payload sent arrived
+  few-values few b h = omega (arith, values-le s sent arrived b, few b h)
+
+  pub few-bits : {k : ℕ} → FewValues k s payload sent arrived → FewBits k s payload arrived
   few-bits few i h =
       omega (
         arith,

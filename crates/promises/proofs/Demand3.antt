@@ -7,9 +7,9 @@ use Prim.Native.Nat.{ℕ, _≤_, _<_}
 use native.Mathlib.Omega.{arith}
 use Rattle.lora.specs.declared.Settings.{Settings}
 use Rattle.lora.specs.declared.Received.{Received}
-use Rattle.promises.specs.Damage.{readWords, blockFor, changedBits, FewSymbols, FewBits, Passed, hurtAfterFirst, hurtTwice, Returned, ReturnedUnless}
+use Rattle.promises.specs.Damage.{readWords, blockFor, changedBits, FewSymbols, FewValues, FewBits, Passed, hurtAfterFirst, hurtTwice, Returned, ReturnedUnless}
 use Rattle.promises.proofs.Answers.{FoundAs, never}
-use Rattle.promises.proofs.Codewords.{by-bits, by-rate, few-bits, answered-by, clean, repaired, lost-by-one, lost-by-two, hurt-none, hurt-some, after-first, in-first, twice}
+use Rattle.promises.proofs.Codewords.{by-bits, by-rate, few-values, few-bits, answered-by, clean, repaired, lost-by-one, lost-by-two, hurt-none, hurt-some, after-first, in-first, twice}
 
 module _ {s : Settings} {payload old sent : List ℕ} {count : ℕ} {arrived buffer buffer′ : List ℕ} {answer : Received}
     (c : Passed s payload old sent count arrived buffer buffer′ answer) where
@@ -57,14 +57,26 @@ module _ {s : Settings} {payload old sent : List ℕ} {count : ℕ} {arrived buf
           (λ e. repaired c _ i (twice s payload arrived i 1 e) (omega arith) e)
           (λ e. lost-by-two c _ i (twice s payload arrived i 2 e) four e)
 
+  -- The same with at most so many symbols in each block that are read as other values: any others may have drifted besides.
+  pub one-value : 3 ≤ s .cr → FewValues 1 s payload sent arrived → Returned s payload arrived count buffer buffer′ answer
+  one-value rate few = one-bit rate (few-bits c few)
+
+  pub one-value-low : s .cr ≤ 2 → FewValues 1 s payload sent arrived
+      → ReturnedUnless (hurtAfterFirst s payload arrived) s payload arrived count buffer buffer′ answer
+  one-value-low rate few = one-bit-low rate (few-bits c few)
+
+  pub two-values : s .cr ≡ 4 → FewValues 2 s payload sent arrived
+      → ReturnedUnless (hurtTwice s payload arrived) s payload arrived count buffer buffer′ answer
+  two-values rate few = two-bits rate (few-bits c few)
+
   -- The same with at most so many symbols changed in each block.
   pub one-changed : 3 ≤ s .cr → FewSymbols 1 s payload sent arrived → Returned s payload arrived count buffer buffer′ answer
-  one-changed rate few = one-bit rate (few-bits c few)
+  one-changed rate few = one-value rate (few-values c few)
 
   pub one-changed-low : s .cr ≤ 2 → FewSymbols 1 s payload sent arrived
       → ReturnedUnless (hurtAfterFirst s payload arrived) s payload arrived count buffer buffer′ answer
-  one-changed-low rate few = one-bit-low rate (few-bits c few)
+  one-changed-low rate few = one-value-low rate (few-values c few)
 
   pub two-changed : s .cr ≡ 4 → FewSymbols 2 s payload sent arrived
       → ReturnedUnless (hurtTwice s payload arrived) s payload arrived count buffer buffer′ answer
-  two-changed rate few = two-bits rate (few-bits c few)
+  two-changed rate few = two-values rate (few-values c few)

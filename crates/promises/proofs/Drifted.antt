@@ -1,25 +1,25 @@
 -- Document 02, Ask 2: a frame that arrives beside its marks, and what its drift is.
 -- Assumes nothing.
 use mathlib.Core.Path.{_≡_, refl, sym, ap, ap₂, _∙_}
-use mathlib.Core.Bool.{Bool, true, false}
+use mathlib.Core.Bool.{Bool, true, false, not}
 use mathlib.Core.List.{List, [], _∷_, _++_}
 use Prim.Native.Nat.{ℕ, zero, suc, _+_, _-_, _*_, _^_, _≤_, _<_}
 use native.Mathlib.Omega.{arith}
 use lib.IntN.{ℤ, pos, negsuc}
 use lib.ListN.{length, getD, drop}
 use lib.Pow.{pow-pos}
+use borrow.Author.Tests.{eq-eqb}
 use Rattle.bits.specs.Tab.{Bytes}
 use Rattle.bits.proofs.Searches.{howMany-none}
-use Rattle.block.specs.Block.{symbolOfCodewords, wordOfCodewords, wordOfNumber}
+use Rattle.block.specs.Block.{symbolOfCodewords}
 use Rattle.block.specs.Gray.{numberOfValue, valueOfNumber}
-use Rattle.block.proofs.BlockLaws.{read-symbol}
-use Rattle.coding.specs.Symbols.{codewordInBlock, symbolInBlock}
+use Rattle.coding.specs.Symbols.{codewordInBlock, symbolInBlock, symbolAt}
 use Rattle.drift.specs.Drift.{stepsUp, distance, moved, markOf, driftOf, Small}
-use Rattle.drift.proofs.DriftLaws.{read-moved, drift-of-symbol, drift-small, drift-moves, drift-only, moved-below}
-use Rattle.layout.specs.Layout.{rowsOfFirst, rowsOfLater, firstBlock, blockOf, blockOfSymbol, blockOfCodeword, laterBlocks, symbolsOf}
+use Rattle.drift.proofs.DriftLaws.{value-of-symbol, drift-of-symbol, drift-small, drift-moves, drift-only, moved-below}
+use Rattle.layout.specs.Layout.{rowsOfFirst, rowsOfLater, firstBlock, blockOf, blockOfSymbol, laterBlocks, symbolsOf}
 use Rattle.layout.specs.declared.Frame.{Frame}
-use Rattle.layout.proofs.LayoutLaws.{block-of-read, symbol-in, symbols-below, symbols-ge}
-use Rattle.lora.specs.Code.{sentNibble, Coding}
+use Rattle.layout.proofs.LayoutLaws.{symbol-in, symbols-below, symbols-ge}
+use Rattle.lora.specs.Code.{sentNibble, sentSymbol, Coding}
 use Rattle.lora.specs.Count.{frameOf}
 use Rattle.lora.specs.Read.{Reading}
 use Rattle.lora.specs.declared.Accepted.{Accepted}
@@ -28,13 +28,13 @@ use Rattle.lora.specs.declared.Counted.the-variants.{Symbols}
 use Rattle.lora.specs.declared.Received.{Received}
 use Rattle.lora.specs.declared.Received.the-variants.{Payload}
 use Rattle.lora.proofs.AnswerLaws.{accepts}
+use Rattle.lora.proofs.CountLaws.{coded}
 use Rattle.lora.proofs.HeadLaws.{head-sound}
-use Rattle.reading.specs.Stages.{symbolWord}
-use Rattle.promises.specs.Damage.{readWords, blockAt, blockFor, changedBits, Passed, hurt}
+use Rattle.promises.specs.Damage.{readWords, blockAt, valueIn, changedValues, changedBits, FewValues, Passed, hurt}
 use Rattle.promises.specs.Drifted.{isSpaced, Drifted, IsDrift}
-use Rattle.promises.proofs.Near.{madeOf, none-changed, sent-in-block}
+use Rattle.promises.proofs.Near.{sent-in-block}
 use Rattle.promises.proofs.Answers.{never}
-use Rattle.promises.proofs.Codewords.{sender, counts, frame-cells, answered-by, clean, hurt-none}
+use Rattle.promises.proofs.Codewords.{sender, counts, frame-cells, few-bits, answered-by, clean, hurt-none}
 use Rattle.promises.proofs.Unchanged.{below-limit}
 
 -- a block at the four-wide spacing has SF - 2 rows
@@ -43,15 +43,14 @@ unfolding blockOf firstBlock rowsOfFirst rowsOfLater
 spaced-rows F zero e = refl
 spaced-rows F (suc b) e = rw e
 
--- a symbol that arrives beside its mark at that spacing, or else as sent, is read as the word it was made of
-read-beside : (sf rows : ℕ) (wide : Bool) (c : ℕ → ℕ) (j arrived : ℕ) (d : ℤ) → 2 ≤ sf
-    → (wide ≡ true → (rows ≡ sf - 2) × Small d × (arrived ≡ moved (2 ^ sf) (symbolOfCodewords rows wide c j) d))
-    → (wide ≡ false → arrived ≡ symbolOfCodewords rows wide c j)
-    → wordOfNumber rows wide arrived ≡ wordOfCodewords rows c j
-read-beside sf rows false c j arrived d two near as-sent = ap (wordOfNumber rows false) (as-sent refl) ∙ read-symbol rows false c j
-read-beside sf rows true c j arrived d two near as-sent =
+-- a symbol that arrives beside its mark at that spacing, or else as sent, has the value that was sent
+beside-value : (sf rows : ℕ) (wide : Bool) (c : ℕ → ℕ) (j arrived sent : ℕ) (d : ℤ) → 2 ≤ sf → sent ≡ symbolOfCodewords rows wide c j
+    → (wide ≡ true → (rows ≡ sf - 2) × Small d × (arrived ≡ moved (2 ^ sf) sent d)) → (wide ≡ false → arrived ≡ sent)
+    → valueOfNumber rows wide arrived ≡ valueOfNumber rows wide sent
+beside-value sf rows false c j arrived sent d two own near as-sent = ap (valueOfNumber rows false) (as-sent refl)
+beside-value sf rows true c j arrived sent d two own near as-sent =
     let (e, small, is) = near refl in
-    rw (is, e) (read-moved sf two c j d small)
+    rw (is, own, e) (value-of-symbol sf two c j d small)
 
 module _ {d : ℕ → ℤ} {s : Settings} {payload old sent : List ℕ} {count : ℕ} {arrived buffer buffer′ : List ℕ} {answer : Received}
     (p : Passed s payload old sent count arrived buffer buffer′ answer) (near : Drifted d s sent count arrived) where
@@ -73,23 +72,24 @@ module _ {d : ℕ → ℤ} {s : Settings} {payload old sent : List ℕ} {count :
     unfolding symbolInBlock
     was-sent = sent-in-block s payload sent arrived (sender p) (λ t k. frame-cells s payload old sent count (p .coded) t (omega (arith, counts p))) b j h l
 
-    -- as it arrives it is read as the word it was made of
-    word-back : wordOfNumber (blockAt s b .rows) (blockAt s b .spaced) (getD arrived (blockAt s b .symbol + j) 0)
-        ≡ wordOfCodewords (blockAt s b .rows) (codewordInBlock (blockAt s b) (sentNibble s payload)) j
-    unfolding blockAt
-    word-back =
+    -- as it arrives it has the value that was sent
+    value-back : valueIn (blockAt s b) arrived j ≡ valueIn (blockAt s b) sent j
+    unfolding valueIn blockAt
+    value-back =
         let t : ℕ = blockOf (frameOf s) b .symbol + j in
-        read-beside (s .sf) _ _ _ j _ (d t) two
-        (λ e. let (small, is) = near .near t inside (spacing ∙ e) in
-        (spaced-rows (frameOf s) b e, small, is ∙ ap (λ (x : ℕ). moved (2 ^ (s .sf)) x (d t)) was-sent))
-        (λ e. near .others t inside (spacing ∙ e) ∙ was-sent)
+        beside-value (s .sf) _ _ _ j _ _ (d t) two was-sent
+        (λ e. let (small, is) = near .near t inside (spacing ∙ e) in (spaced-rows (frameOf s) b e, small, is))
+        (λ e. near .others t inside (spacing ∙ e))
 
-  -- no codeword that is read has a changed bit
+  -- no value is changed, so no codeword that is read has a changed bit
+  no-values : FewValues 0 s payload sent arrived
+  unfolding changedValues
+  no-values b h =
+      let none = howMany-none _ (4 + blockAt s b .rate) (λ j l. ap not (eq-eqb _ _ (value-back b j h l))) in
+      omega (arith, none)
+
   none : (i : ℕ) → i < readWords s payload → changedBits s payload arrived i ≡ 0
-  unfolding symbolWord madeOf blockFor
-  none i h =
-      none-changed s payload arrived (sender p) i
-      (λ j l. word-back (blockOfCodeword (frameOf s) i) j (block-of-read (frameOf s) (sender p .valid) i (readWords s payload) h) l)
+  none i h = omega (arith, few-bits p no-values i h)
 
   -- the first symbol's drift is the distance at which it arrived
   first-drift : driftOf (s .sf) (getD arrived 0 0) ≡ d 0
@@ -129,6 +129,17 @@ drifted d s payload old sent count arrived buffer buffer′ answer bytes c enoug
 
     below : (t : ℕ) → t < count → getD arrived t 0 < 2 ^ (s .sf)
     below t h = by t h (isSpaced s t) refl
+
+-- A symbol at the four-wide spacing that arrives -2 to +1 from what was sent has the value that was sent: in `Demand3`'s theorems by
+-- values it is not one of the changed ones, in whatever frame it stands.
+pub keeps-value : {s : Settings} {payload old sent : List ℕ} {count : ℕ} → Coding s payload old sent (Symbols count)
+    → (t : ℕ) → t < count → isSpaced s t ≡ true → (d : ℤ) → Small d
+    → valueOfNumber (s .sf - 2) true (moved (2 ^ (s .sf)) (getD sent t 0) d) ≡ valueOfNumber (s .sf - 2) true (getD sent t 0)
+unfolding isSpaced blockAt sentSymbol symbolAt symbolInBlock
+keeps-value {s} {payload} {old} {sent} {count} c t h spaced d small =
+    let k = coded s payload (length old) count (sym (c .answer)) .0 in
+    let own = frame-cells s payload old sent count c t h in
+    rw (own, spaced, spaced-rows (frameOf s) (blockOfSymbol (frameOf s) t) spaced) (value-of-symbol (s .sf) (omega (arith, k .settings .sf-low)) _ _ d small)
 
 -- The mark is 4 x the value, and the drift is the only number from -2 to +1 with mark + drift = number mod 2^SF.
 pub drift-is : (sf s : ℕ) → 2 ≤ sf → s < 2 ^ sf

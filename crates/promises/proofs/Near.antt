@@ -4,16 +4,14 @@ use mathlib.Core.Path.{_≡_, refl, ap, _∙_}
 use mathlib.Core.Bool.{not}
 use mathlib.Core.List.{List}
 use Prim.Native.Nat.{ℕ, _+_, _-_, _^_, _≤_, _<_}
-use native.Mathlib.Nat.{le-trans}
 use native.Mathlib.Omega.{arith}
 use lib.Dec.{eqb}
 use lib.ListN.{length, getD}
-use borrow.Author.Tests.{eq-eqb}
 use Rattle.bits.specs.Search.{howMany}
 use Rattle.bits.specs.Tab.{Bytes}
-use Rattle.bits.proofs.Searches.{howMany-cong, howMany-none}
-use Rattle.block.specs.Block.{wordOfCodewords}
-use Rattle.block.proofs.BlockLaws.{wrong-bits, wrong-words}
+use Rattle.bits.proofs.Searches.{howMany-cong, howMany-mono}
+use Rattle.block.specs.Gray.{valueOfNumber}
+use Rattle.block.proofs.BlockLaws.{wrong-bits, not-eqb-mono}
 use Rattle.codeword.specs.Codeword.{codeword, apart, readAs}
 use Rattle.codeword.specs.Ranges.{Rate}
 use Rattle.codeword.specs.declared.Found.{Found}
@@ -30,9 +28,8 @@ use Rattle.lora.specs.Code.{sentNibble, sentSymbol}
 use Rattle.lora.specs.Count.{frameOf}
 use Rattle.lora.specs.declared.Settings.{Settings}
 use Rattle.reading.specs.Found.{wordInBlock, foundInBlock, foundAt}
-use Rattle.reading.specs.Stages.{symbolWord}
 use Rattle.reading.proofs.ReadingLaws.{word-lt}
-use Rattle.promises.specs.Damage.{readWords, blockAt, blockFor, sentWord, arrivedWord, changedBits, changedSymbols}
+use Rattle.promises.specs.Damage.{readWords, blockAt, blockFor, sentWord, arrivedWord, changedBits, changedSymbols, valueIn, changedValues}
 
 -- valid settings and a payload of at most 255 bytes
 pub record Sent (s : Settings) (payload : List ℕ) : Type 0 where
@@ -59,27 +56,6 @@ own-word : (s : Settings) (payload : List ℕ) → Valid (frameOf s) → (i : �
 unfolding codewordInBlock sentWord
 own-word s payload v i = rw (row-of s v i .0)
 
--- the word that symbol j of codeword i's block was made of
-unfoldable pub madeOf : Settings → List ℕ → ℕ → ℕ → ℕ
-madeOf s payload i j = wordOfCodewords (blockFor s i .rows) (codewordInBlock (blockFor s i) (sentNibble s payload)) j
-
-module _ (s : Settings) (payload arrived : List ℕ) (p : Sent s payload) (i : ℕ) where
-  -- a codeword has at most as many changed bits as its block has symbols that are read as other words than they were made of
-  changed-words : changedBits s payload arrived i
-      ≤ howMany (λ j. not (eqb (symbolWord (blockFor s i) arrived j) (madeOf s payload i j))) (4 + blockFor s i .rate)
-  unfolding changedBits arrivedWord sentWord blockFor apart wordInBlock symbolWord madeOf
-  changed-words =
-      let B : Block = blockFor s i in
-      let row : i - B .codeword < B .rows = row-of s (p .valid) i .1 in
-      let own : codewordInBlock B (sentNibble s payload) (i - B .codeword) ≡ codeword (B .rate) (sentNibble s payload i) = own-word s payload (p .valid) i in
-      rw own at (wrong-bits (B .rows) (4 + B .rate) (B .spaced) (codewordInBlock B (sentNibble s payload)) (λ j. getD arrived (B .symbol + j) 0) (i - B .codeword) row)
-
-  -- none where each is read as the word it was made of
-  pub none-changed : ((j : ℕ) → j < 4 + blockFor s i .rate → symbolWord (blockFor s i) arrived j ≡ madeOf s payload i j) → changedBits s payload arrived i ≡ 0
-  none-changed same =
-      let none = howMany-none _ (4 + blockFor s i .rate) (λ j l. ap not (eq-eqb _ _ (same j l))) in
-      omega (arith, changed-words, none)
-
 module _ (s : Settings) (payload sent arrived : List ℕ) (p : Sent s payload)
     (frame : (t : ℕ) → t < symbolsOf (frameOf s) (length payload) → getD sent t 0 ≡ sentSymbol s payload t) where
   -- the symbols of a block as they were sent
@@ -90,19 +66,27 @@ module _ (s : Settings) (payload sent arrived : List ℕ) (p : Sent s payload)
       let within = symbols-below (frameOf s) (p .valid) (readWords s payload) b h in
       frame _ (omega arith) ∙ symbol-of-block (frameOf s) (sentNibble s payload) b j (p .valid) l
 
-  -- a codeword has at most as many changed bits as its block has changed symbols
-  pub changed-le : (i : ℕ) → i < readWords s payload → changedBits s payload arrived i ≤ changedSymbols s sent arrived (blockOfCodeword (frameOf s) i)
-  unfolding changedSymbols blockFor symbolInBlock symbolWord madeOf
+  -- a codeword has at most as many changed bits as its block has symbols with changed values
+  pub changed-le : (i : ℕ) → i < readWords s payload → changedBits s payload arrived i ≤ changedValues s sent arrived (blockOfCodeword (frameOf s) i)
+  unfolding changedBits changedValues valueIn arrivedWord sentWord blockFor apart wordInBlock symbolInBlock
   changed-le i h =
       let b : ℕ = blockOfCodeword (frameOf s) i in
       let B : Block = blockAt s b in
-      let count : howMany (λ j. not (eqb (getD arrived (B .symbol + j) 0) (getD sent (B .symbol + j) 0))) (4 + B .rate)
-      ≡ howMany (λ j. not (eqb (getD arrived (B .symbol + j) 0) (symbolInBlock B (sentNibble s payload) j))) (4 + B .rate)
+      let row : i - B .codeword < B .rows = row-of s (p .valid) i .1 in
+      let own : codewordInBlock B (sentNibble s payload) (i - B .codeword) ≡ codeword (B .rate) (sentNibble s payload i) = own-word s payload (p .valid) i in
+      let value : ℕ → ℕ = valueOfNumber (B .rows) (B .spaced) in
+      let count : howMany (λ j. not (eqb (value (getD arrived (B .symbol + j) 0)) (value (getD sent (B .symbol + j) 0)))) (4 + B .rate)
+      ≡ howMany (λ j. not (eqb (value (getD arrived (B .symbol + j) 0)) (value (symbolInBlock B (sentNibble s payload) j)))) (4 + B .rate)
       = howMany-cong _ _ (4 + B .rate)
-      (λ j l. ap (λ (x : ℕ). not (eqb (getD arrived (B .symbol + j) 0) x)) (sent-in-block b j (block-of-read (frameOf s) (p .valid) i (readWords s payload) h) l)) in
+      (λ j l. ap (λ (x : ℕ). not (eqb (value (getD arrived (B .symbol + j) 0)) (value x))) (sent-in-block b j (block-of-read (frameOf s) (p .valid) i (readWords s payload) h) l)) in
       rw count
-      (le-trans (changed-words s payload arrived p i)
-      (wrong-words (B .rows) (4 + B .rate) (B .spaced) (codewordInBlock B (sentNibble s payload)) (λ j. getD arrived (B .symbol + j) 0)))
+      (rw own at (wrong-bits (B .rows) (4 + B .rate) (B .spaced) (codewordInBlock B (sentNibble s payload)) (λ j. getD arrived (B .symbol + j) 0) (i - B .codeword) row))
+
+-- a symbol with a changed value is a changed symbol
+pub values-le : (s : Settings) (sent arrived : List ℕ) (b : ℕ) → changedValues s sent arrived b ≤ changedSymbols s sent arrived b
+unfolding changedValues changedSymbols valueIn
+values-le s sent arrived b =
+    howMany-mono _ _ (4 + blockAt s b .rate) (λ j l. not-eqb-mono _ _ _ _ (ap (valueOfNumber (blockAt s b .rows) (blockAt s b .spaced))))
 
 -- what a codeword is found to be, by its changed bits
 module _ (s : Settings) (payload arrived : List ℕ) (p : Sent s payload) where

@@ -8,6 +8,7 @@ use lib.Dec.{eqb, leb, ltb}
 use lib.ListN.{length, getD, drop}
 use Rattle.bits.specs.Search.{first, howMany}
 use Rattle.bits.specs.Tab.{Bytes}
+use Rattle.block.specs.Gray.{valueOfNumber}
 use Rattle.codeword.specs.Codeword.{codeword, apart}
 use Rattle.drift.specs.Drift.{driftOf}
 use Rattle.layout.specs.Layout.{blockOf, blockOfCodeword, laterBlocks, nibblesOf}
@@ -48,9 +49,20 @@ unfoldable pub changedSymbols : Settings → List ℕ → List ℕ → ℕ → �
 changedSymbols s sent arrived b =
     howMany (λ j. not (eqb (getD arrived (blockAt s b .symbol + j) 0) (getD sent (blockAt s b .symbol + j) 0))) (4 + blockAt s b .rate)
 
--- at most k symbols were changed in each block; each codeword that is read has at most k changed bits
+-- how many of them are read as other values than were sent: not those at the four-wide spacing that arrived beside their marks
+unfoldable pub valueIn : Block → List ℕ → ℕ → ℕ
+valueIn B symbols j = valueOfNumber (B .rows) (B .spaced) (getD symbols (B .symbol + j) 0)
+
+unfoldable pub changedValues : Settings → List ℕ → List ℕ → ℕ → ℕ
+changedValues s sent arrived b = howMany (λ j. not (eqb (valueIn (blockAt s b) arrived j) (valueIn (blockAt s b) sent j))) (4 + blockAt s b .rate)
+
+-- at most k symbols were changed in each block; at most k are read as other values; each codeword that is read has at most k
+-- changed bits
 abbrev pub FewSymbols : ℕ → Settings → List ℕ → List ℕ → List ℕ → Type 0
 FewSymbols k s payload sent arrived = (b : ℕ) → b ≤ laterBlocks (frameOf s) (readWords s payload) → changedSymbols s sent arrived b ≤ k
+
+abbrev pub FewValues : ℕ → Settings → List ℕ → List ℕ → List ℕ → Type 0
+FewValues k s payload sent arrived = (b : ℕ) → b ≤ laterBlocks (frameOf s) (readWords s payload) → changedValues s sent arrived b ≤ k
 
 abbrev pub FewBits : ℕ → Settings → List ℕ → List ℕ → Type 0
 FewBits k s payload arrived = (i : ℕ) → i < readWords s payload → changedBits s payload arrived i ≤ k

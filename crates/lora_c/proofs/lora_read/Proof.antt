@@ -70,7 +70,9 @@ returns-3 c =
     let m = f .before .before .before .before in
     let k = m .before .before .before .before in
     let h = k .before .before .if1 .left in
-    let drift = d .signed .ensures ∙ ap cellOf (toZ-ofZ {w = w8} {z = m .received2 .given .0 .0 .drift} (sfits-of (d .before .struct-told .given .1 .1 .1 .1 .1 .0 .1))) in
+    -- the answer's sixth field fits in its 8 bits, as its row tells
+    let fits = sfits-of (d .before .struct-told .given .1 .1 .1 .1 .1 .0 .1) in
+    let drift = d .signed .ensures ∙ ap cellOf (toZ-ofZ {w = w8} {z = m .received2 .given .0 .0 .drift} fits) in
     rw (sym (k .read .ensures .answer) ∙ m .received2 .given .1)
     (record { is = enough h (rw (f .flag .ensures, drift) at (p .put2 .ensures)); bytes = lent-enough h (rw (m .received2 .given .1) at (k .read .ensures .cells)) })
 
