@@ -14,9 +14,10 @@
  * own that no other thread writes. A call needs 2.5 KiB of stack (measured, not proved: reference/run stack).
  *
  * What accepted means: read with the sender's own SF and low-rate setting, which the frame does not carry, the symbols are
- * a frame by the rules. It is the frame that was sent if at most one symbol was changed in each block, or two at 4/8: that
- * is proved. With more changed, or with another SF or low-rate setting, a wrong payload may be accepted: seldom with the
- * checksum on at 4/5, 4/6 and 4/8, more often at 4/7 or with the checksum off (measured: reference/run misread).
+ * a frame by the rules. It is the frame that was sent if at most one symbol was changed in each block, or two at 4/8, those
+ * read as the mark that was sent not counted: that is proved. With more changed, or with another SF or low-rate setting, a
+ * wrong payload may be accepted: seldom with the checksum on at 4/5, 4/6 and 4/8, more often at 4/7 or with the checksum
+ * off (measured: reference/run misread).
  *
  * Ranges: SF 7 to 12, CR 1 to 4 (4/5 to 4/8), length 0 to 255, bandwidth 125, 250 or 500 kHz, preamble any 16-bit number.
  * The largest frame has 832 symbols, the longest payload 255 bytes, the longest file of a day 67,603 bytes.

@@ -130,9 +130,10 @@ pub fn code(settings: &Settings, payload: &[u8], out: &mut [u16]) -> Result<usiz
 /// What accepted means: read with the sender's own SF and low-rate setting,
 /// which the frame does not carry, the symbols are a frame by the rules. It is
 /// the frame that was sent if at most one symbol was changed in each block, or
-/// two at 4/8: that is proved. With more changed, or with another SF or low-rate
-/// setting, a wrong payload may be accepted: seldom with the checksum on at 4/5,
-/// 4/6 and 4/8, more often at 4/7 or with the checksum off.
+/// two at 4/8, those read as the mark that was sent not counted: that is proved.
+/// With more changed, or with another SF or low-rate setting, a wrong payload may
+/// be accepted: seldom with the checksum on at 4/5, 4/6 and 4/8, more often at 4/7
+/// or with the checksum off.
 ///
 /// # Errors
 ///
