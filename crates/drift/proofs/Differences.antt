@@ -19,7 +19,7 @@ pub minus-up : (a b : ℕ) → b ≤ a → pos a -ℤ pos b ≡ pos (a - b)
 minus-up a zero h = ap pos (omega arith)
 minus-up a (suc b) h = rw (le-ltb a (suc b) h)
 
-pub minus-down : (a b : ℕ) → a < b → pos a -ℤ pos b ≡ negsuc (b - suc a)
+minus-down : (a b : ℕ) → a < b → pos a -ℤ pos b ≡ negsuc (b - suc a)
 minus-down a zero h = absurd (omega arith)
 minus-down a (suc b) h = rw (lt-ltb a (suc b) h)
 

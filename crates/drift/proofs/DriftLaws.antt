@@ -10,6 +10,7 @@ use native.Mathlib.Omega.{arith}
 use lib.Dec.{ltb, leb→le}
 use lib.IntN.{ℤ, pos, negsuc, _-ℤ_}
 use lib.Pow.{pow-add, pow-pos}
+use lib.Signed.{leZ-yes}
 use borrow.Author.Tests.{lt-ltb, le-ltb}
 use Rattle.block.specs.Gray.{numberOfValue, valueOfNumber}
 use Rattle.block.specs.Block.{symbolOfCodewords, wordOfCodewords}
@@ -18,7 +19,7 @@ use Rattle.drift.specs.Drift.{stepsUp, distance, moved, markOf, driftOf,
 use Rattle.drift.proofs.Differences.{minus-up, minus-same}
 
 -- the number a is k - 2 from the mark of the value v, round a circle of 4 x 2^n numbers
-pub record Near (n v k a : ℕ) : Type 0 where
+record Near (n v k a : ℕ) : Type 0 where
   pub few : k < 4
   pub value : v < 2 ^ n
   pub below : a < 4 * 2 ^ n
@@ -136,10 +137,10 @@ near-moved n v d value =
 
 -- a number near a mark is small from it, and is the number so far from it
 near-small : (n v k a : ℕ) → Near n v k a → Small (pos k -ℤ pos 2) × (moved (4 * 2 ^ n) (4 * v) (pos k -ℤ pos 2) ≡ a)
-near-small n v zero a h = ((record { le = tt }, record { le = tt }), near-same (down n v (h .value) 1 (omega arith)) h)
-near-small n v (suc zero) a h = ((record { le = tt }, record { le = tt }), near-same (down n v (h .value) 0 (omega arith)) h)
-near-small n v (suc (suc zero)) a h = ((record { le = tt }, record { le = tt }), near-same (up n v (h .value) 0 (omega arith)) h)
-near-small n v (suc (suc (suc zero))) a h = ((record { le = tt }, record { le = tt }), near-same (up n v (h .value) 1 (omega arith)) h)
+near-small n v zero a h = ((leZ-yes tt, leZ-yes tt), near-same (down n v (h .value) 1 (omega arith)) h)
+near-small n v (suc zero) a h = ((leZ-yes tt, leZ-yes tt), near-same (down n v (h .value) 0 (omega arith)) h)
+near-small n v (suc (suc zero)) a h = ((leZ-yes tt, leZ-yes tt), near-same (up n v (h .value) 0 (omega arith)) h)
+near-small n v (suc (suc (suc zero))) a h = ((leZ-yes tt, leZ-yes tt), near-same (up n v (h .value) 1 (omega arith)) h)
 near-small n v (suc (suc (suc (suc k)))) a h = absurd (omega (arith, h .few))
 
 -- the circle of the 2^SF numbers
@@ -155,11 +156,11 @@ module _ (sf : ℕ) (two : 2 ≤ sf) where
     at = rw four (near-moved (sf - 2) v d value small)
 
     -- it has the value v
-    pub value-of-moved : valueOfNumber (sf - 2) true (moved (2 ^ sf) (4 * v) d) ≡ v
+    value-of-moved : valueOfNumber (sf - 2) true (moved (2 ^ sf) (4 * v) d) ≡ v
     value-of-moved = near-value (at .1)
 
     -- and the drift d
-    pub drift-of-moved : driftOf sf (moved (2 ^ sf) (4 * v) d) ≡ d
+    drift-of-moved : driftOf sf (moved (2 ^ sf) (4 * v) d) ≡ d
     unfolding driftOf markOf numberOfValue
     drift-of-moved =
         let a : ℕ = moved (2 ^ sf) (4 * v) d in
@@ -186,7 +187,7 @@ module _ (sf : ℕ) (two : 2 ≤ sf) where
     own = near-own (sf - 2) s (rw four at below)
 
     -- the drift is two less than the remainder of the number plus 2 by 4
-    pub drift-is : driftOf sf s ≡ pos k -ℤ pos 2
+    drift-is : driftOf sf s ≡ pos k -ℤ pos 2
     unfolding driftOf markOf numberOfValue
     drift-is = ap (λ (x : ℕ). distance x (4 * valueOfNumber (sf - 2) true s) s) four ∙ near-distance own
 

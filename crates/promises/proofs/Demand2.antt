@@ -5,6 +5,7 @@ use mathlib.Core.List.{List, _++_}
 use Prim.Native.Nat.{ℕ, _≤_}
 use lib.IntN.{pos}
 use lib.ListN.{length, take, drop}
+use lib.Signed.{leZ-yes}
 use Rattle.bits.specs.Tab.{Bytes}
 use Rattle.drift.proofs.DriftLaws.{moved-none}
 use Rattle.lora.specs.Code.{Coding}
@@ -28,7 +29,7 @@ pub unharmed : (s : Settings) (payload old sent : List ℕ) (count : ℕ) (after
 unharmed s payload old sent count after buffer buffer′ answer bytes c room read =
     drifted (λ _. pos 0) s payload old sent count (take count sent ++ after) buffer buffer′ answer bytes c (enough c after)
     (record {
-      near = λ t h e. ((record { le = tt }, record { le = tt }), same c after t h ∙ sym (moved-none _ _ (below-limit c t h)));
+      near = λ t h e. ((leZ-yes tt, leZ-yes tt), same c after t h ∙ sym (moved-none _ _ (below-limit c t h)));
       others = λ t h e. same c after t h;
     })
     room read

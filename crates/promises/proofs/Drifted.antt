@@ -17,6 +17,7 @@ use Rattle.coding.specs.Symbols.{codewordInBlock, symbolInBlock, symbolAt}
 use Rattle.drift.specs.Drift.{stepsUp, distance, moved, markOf, driftOf, Small}
 use Rattle.drift.proofs.DriftLaws.{value-of-symbol, drift-of-symbol, drift-small, drift-moves, drift-only, moved-below}
 use Rattle.layout.specs.Layout.{rowsOfFirst, rowsOfLater, firstBlock, blockOf, blockOfSymbol, laterBlocks, symbolsOf}
+use Rattle.layout.specs.declared.Block.{Block}
 use Rattle.layout.specs.declared.Frame.{Frame}
 use Rattle.layout.proofs.LayoutLaws.{symbol-in, symbols-below, symbols-ge}
 use Rattle.lora.specs.Code.{sentNibble, sentSymbol, Coding}
@@ -32,7 +33,6 @@ use Rattle.lora.proofs.CountLaws.{coded}
 use Rattle.lora.proofs.HeadLaws.{head-sound}
 use Rattle.promises.specs.Damage.{readWords, blockAt, valueIn, changedValues, changedBits, FewValues, Passed, hurt}
 use Rattle.promises.specs.Drifted.{isSpaced, Drifted, IsDrift}
-use Rattle.promises.proofs.Near.{sent-in-block}
 use Rattle.promises.proofs.Answers.{never}
 use Rattle.promises.proofs.Codewords.{sender, counts, frame-cells, few-bits, answered-by, clean, hurt-none}
 use Rattle.promises.proofs.Unchanged.{below-limit}
@@ -43,21 +43,50 @@ unfolding blockOf firstBlock rowsOfFirst rowsOfLater
 spaced-rows F zero e = refl
 spaced-rows F (suc b) e = rw e
 
--- a symbol that arrives beside its mark at that spacing, or else as sent, has the value that was sent
-beside-value : (sf rows : ℕ) (wide : Bool) (c : ℕ → ℕ) (j arrived sent : ℕ) (d : ℤ) → 2 ≤ sf → sent ≡ symbolOfCodewords rows wide c j
-    → (wide ≡ true → (rows ≡ sf - 2) × Small d × (arrived ≡ moved (2 ^ sf) sent d)) → (wide ≡ false → arrived ≡ sent)
+-- block 0 has it
+first-spaced : (s : Settings) → isSpaced s 0 ≡ true
+unfolding isSpaced blockAt blockOfSymbol blockOf firstBlock
+first-spaced s = refl
+
+-- a symbol that was sent at that spacing was made of its block's codewords
+sent-spaced : {s : Settings} {payload old sent : List ℕ} {count : ℕ} → Coding s payload old sent (Symbols count) → (t : ℕ) → t < count → isSpaced s t ≡ true
+    → (c : ℕ → ℕ) × (j : ℕ) × (getD sent t 0 ≡ symbolOfCodewords (s .sf - 2) true c j)
+unfolding isSpaced blockAt sentSymbol symbolAt symbolInBlock
+sent-spaced {s} {payload} {old} {sent} {count} c t h spaced =
+    let B : Block = blockOf (frameOf s) (blockOfSymbol (frameOf s) t) in (
+      codewordInBlock B (sentNibble s payload),
+      t - B .symbol,
+      frame-cells s payload old sent count c t h ∙ rw (spaced, spaced-rows (frameOf s) (blockOfSymbol (frameOf s) t) spaced),
+    )
+
+module _ {s : Settings} {payload old sent : List ℕ} {count : ℕ} (c : Coding s payload old sent (Symbols count)) where
+  two : 2 ≤ s .sf
+  two = omega (arith, coded s payload (length old) count (sym (c .answer)) .0 .settings .sf-low)
+
+  module _ (t : ℕ) (h : t < count) (spaced : isSpaced s t ≡ true) (d : ℤ) (small : Small d) where
+    -- A symbol at the four-wide spacing that arrives -2 to +1 from what was sent has the value that was sent: in `Demand3`'s theorems
+    -- by values it is not one of the changed ones, in whatever frame it stands.
+    pub keeps-value : valueOfNumber (s .sf - 2) true (moved (2 ^ (s .sf)) (getD sent t 0) d) ≡ valueOfNumber (s .sf - 2) true (getD sent t 0)
+    keeps-value =
+        let (words, j, own) = sent-spaced c t h spaced in
+        rw own (value-of-symbol (s .sf) two words j d small)
+
+    -- and so far is its drift
+    tells-drift : driftOf (s .sf) (moved (2 ^ (s .sf)) (getD sent t 0) d) ≡ d
+    tells-drift =
+        let (words, j, own) = sent-spaced c t h spaced in
+        rw own (drift-of-symbol (s .sf) two words j d small)
+
+-- a value in a block, at either spacing
+same-value : (sf rows : ℕ) (wide : Bool) (arrived sent : ℕ)
+    → (wide ≡ true → (rows ≡ sf - 2) × (valueOfNumber (sf - 2) true arrived ≡ valueOfNumber (sf - 2) true sent)) → (wide ≡ false → arrived ≡ sent)
     → valueOfNumber rows wide arrived ≡ valueOfNumber rows wide sent
-beside-value sf rows false c j arrived sent d two own near as-sent = ap (valueOfNumber rows false) (as-sent refl)
-beside-value sf rows true c j arrived sent d two own near as-sent =
-    let (e, small, is) = near refl in
-    rw (is, own, e) (value-of-symbol sf two c j d small)
+same-value sf rows false arrived sent near as-sent = ap (valueOfNumber rows false) (as-sent refl)
+same-value sf rows true arrived sent near as-sent = let (e, is) = near refl in rw e is
 
 module _ {d : ℕ → ℤ} {s : Settings} {payload old sent : List ℕ} {count : ℕ} {arrived buffer buffer′ : List ℕ} {answer : Received}
     (p : Passed s payload old sent count arrived buffer buffer′ answer) (near : Drifted d s sent count arrived) where
-  two : 2 ≤ s .sf
-  two = omega (arith, sender p .valid .sf-low)
-
-  -- symbol j of block b is one of the frame's, with the block's spacing, and was made of the block's codewords
+  -- symbol j of block b is one of the frame's, with the block's spacing, and as it arrives it has the value that was sent
   module _ (b j : ℕ) (h : b ≤ laterBlocks (frameOf s) (readWords s payload)) (l : j < 4 + blockAt s b .rate) where
     inside : blockAt s b .symbol + j < count
     unfolding blockAt readWords symbolsOf
@@ -67,18 +96,13 @@ module _ {d : ℕ → ℤ} {s : Settings} {payload old sent : List ℕ} {count :
     unfolding isSpaced blockAt
     spacing = ap (λ (x : ℕ). blockOf (frameOf s) x .spaced) (symbol-in (frameOf s) (sender p .valid) b j (omega arith))
 
-    was-sent : getD sent (blockAt s b .symbol + j) 0
-        ≡ symbolOfCodewords (blockAt s b .rows) (blockAt s b .spaced) (codewordInBlock (blockAt s b) (sentNibble s payload)) j
-    unfolding symbolInBlock
-    was-sent = sent-in-block s payload sent arrived (sender p) (λ t k. frame-cells s payload old sent count (p .coded) t (omega (arith, counts p))) b j h l
-
-    -- as it arrives it has the value that was sent
     value-back : valueIn (blockAt s b) arrived j ≡ valueIn (blockAt s b) sent j
     unfolding valueIn blockAt
     value-back =
         let t : ℕ = blockOf (frameOf s) b .symbol + j in
-        beside-value (s .sf) _ _ _ j _ _ (d t) two was-sent
-        (λ e. let (small, is) = near .near t inside (spacing ∙ e) in (spaced-rows (frameOf s) b e, small, is))
+        same-value (s .sf) _ _ _ _
+        (λ e. let (small, is) = near .near t inside (spacing ∙ e) in
+        (spaced-rows (frameOf s) b e, ap (valueOfNumber (s .sf - 2) true) is ∙ keeps-value (p .coded) t inside (spacing ∙ e) (d t) small))
         (λ e. near .others t inside (spacing ∙ e))
 
   -- no value is changed, so no codeword that is read has a changed bit
@@ -93,14 +117,13 @@ module _ {d : ℕ → ℤ} {s : Settings} {payload old sent : List ℕ} {count :
 
   -- the first symbol's drift is the distance at which it arrived
   first-drift : driftOf (s .sf) (getD arrived 0 0) ≡ d 0
-  unfolding isSpaced blockAt blockOfSymbol blockOf firstBlock rowsOfFirst
   first-drift =
       let eight = symbols-ge (frameOf s) (length payload) in
-      let (small, is) = near .near 0 (omega (arith, counts p, eight)) refl in
-      let own = was-sent 0 0 (omega arith) (omega arith) in
-      ap (driftOf (s .sf)) (is ∙ ap (λ (x : ℕ). moved (2 ^ (s .sf)) x (d 0)) own) ∙ drift-of-symbol (s .sf) two _ 0 (d 0) small
+      let here : 0 < count = omega (arith, counts p, eight) in
+      let (small, is) = near .near 0 here (first-spaced s) in
+      ap (driftOf (s .sf)) is ∙ tells-drift (p .coded) 0 here (first-spaced s) (d 0) small
 
-  pub read-clean : (answer ≡ Payload (record { length = length payload; cr = s .cr; checked = s .checked; symbols = count; repairs = 0; drift = d 0 }))
+  read-clean : (answer ≡ Payload (record { length = length payload; cr = s .cr; checked = s .checked; symbols = count; repairs = 0; drift = d 0 }))
       × (buffer′ ≡ payload ++ drop (length payload) buffer)
   read-clean =
       let r = never (answered-by p (λ _. false) (λ i h. clean p _ i refl (none i h))) in
@@ -129,17 +152,6 @@ drifted d s payload old sent count arrived buffer buffer′ answer bytes c enoug
 
     below : (t : ℕ) → t < count → getD arrived t 0 < 2 ^ (s .sf)
     below t h = by t h (isSpaced s t) refl
-
--- A symbol at the four-wide spacing that arrives -2 to +1 from what was sent has the value that was sent: in `Demand3`'s theorems by
--- values it is not one of the changed ones, in whatever frame it stands.
-pub keeps-value : {s : Settings} {payload old sent : List ℕ} {count : ℕ} → Coding s payload old sent (Symbols count)
-    → (t : ℕ) → t < count → isSpaced s t ≡ true → (d : ℤ) → Small d
-    → valueOfNumber (s .sf - 2) true (moved (2 ^ (s .sf)) (getD sent t 0) d) ≡ valueOfNumber (s .sf - 2) true (getD sent t 0)
-unfolding isSpaced blockAt sentSymbol symbolAt symbolInBlock
-keeps-value {s} {payload} {old} {sent} {count} c t h spaced d small =
-    let k = coded s payload (length old) count (sym (c .answer)) .0 in
-    let own = frame-cells s payload old sent count c t h in
-    rw (own, spaced, spaced-rows (frameOf s) (blockOfSymbol (frameOf s) t) spaced) (value-of-symbol (s .sf) (omega (arith, k .settings .sf-low)) _ _ d small)
 
 -- The mark is 4 x the value, and the drift is the only number from -2 to +1 with mark + drift = number mod 2^SF.
 pub drift-is : (sf s : ℕ) → 2 ≤ sf → s < 2 ^ sf

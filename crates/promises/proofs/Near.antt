@@ -59,7 +59,7 @@ own-word s payload v i = rw (row-of s v i .0)
 module _ (s : Settings) (payload sent arrived : List ℕ) (p : Sent s payload)
     (frame : (t : ℕ) → t < symbolsOf (frameOf s) (length payload) → getD sent t 0 ≡ sentSymbol s payload t) where
   -- the symbols of a block as they were sent
-  pub sent-in-block : (b j : ℕ) → b ≤ laterBlocks (frameOf s) (readWords s payload) → j < 4 + blockAt s b .rate
+  sent-in-block : (b j : ℕ) → b ≤ laterBlocks (frameOf s) (readWords s payload) → j < 4 + blockAt s b .rate
       → getD sent (blockAt s b .symbol + j) 0 ≡ symbolInBlock (blockAt s b) (sentNibble s payload) j
   unfolding blockAt sentSymbol sentNibble readWords symbolsOf
   sent-in-block b j h l =
