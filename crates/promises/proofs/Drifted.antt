@@ -43,12 +43,12 @@ unfolding blockOf firstBlock rowsOfFirst rowsOfLater
 spaced-rows F zero e = refl
 spaced-rows F (suc b) e = rw e
 
--- block 0 has it
+-- block 0 stands at that spacing
 first-spaced : (s : Settings) → isSpaced s 0 ≡ true
 unfolding isSpaced blockAt blockOfSymbol blockOf firstBlock
 first-spaced s = refl
 
--- a symbol that was sent at that spacing was made of its block's codewords
+-- a symbol that was sent at it was made of its block's codewords
 sent-spaced : {s : Settings} {payload old sent : List ℕ} {count : ℕ} → Coding s payload old sent (Symbols count) → (t : ℕ) → t < count → isSpaced s t ≡ true
     → (c : ℕ → ℕ) × (j : ℕ) × (getD sent t 0 ≡ symbolOfCodewords (s .sf - 2) true c j)
 unfolding isSpaced blockAt sentSymbol symbolAt symbolInBlock

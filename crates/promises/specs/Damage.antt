@@ -49,7 +49,8 @@ unfoldable pub changedSymbols : Settings → List ℕ → List ℕ → ℕ → �
 changedSymbols s sent arrived b =
     howMany (λ j. not (eqb (getD arrived (blockAt s b .symbol + j) 0) (getD sent (blockAt s b .symbol + j) 0))) (4 + blockAt s b .rate)
 
--- how many of them are read as other values than were sent: not those at the four-wide spacing that arrived beside their marks
+-- the value that symbol j of a block is read as, and how many symbols of block b are read as other values than were sent: not
+-- those at the four-wide spacing that arrived beside their marks
 unfoldable pub valueIn : Block → List ℕ → ℕ → ℕ
 valueIn B symbols j = valueOfNumber (B .rows) (B .spaced) (getD symbols (B .symbol + j) 0)
 
