@@ -5,6 +5,7 @@ pub mod Lists
 pub mod Placed
 pub mod Searches
 pub mod Tabs
+pub mod Tallies
 pub mod Truth
 pub mod Turns
 pub mod Xor

@@ -155,7 +155,7 @@ module _ {A : Type 0} (at n : ℕ) (f : ℕ → A) (d : List A) (z : A) (room : 
   pub getD-overAt : (i : ℕ) → i < n → getD (overAt at n f d) (at + i) z ≡ f i
   getD-overAt i l = behind i ∙ List·getD-append (tab n f) _ z i (rw length-tab l) ∙ getD-tab n f i z l
 
-  getD-overAt-before : (i : ℕ) → i < at → getD (overAt at n f d) i z ≡ getD d i z
+  pub getD-overAt-before : (i : ℕ) → i < at → getD (overAt at n f d) i z ≡ getD d i z
   getD-overAt-before i l = List·getD-append (take at d) _ z i (rw (length-take-le at d room) l) ∙ getD-take at d i z l
 
   getD-overAt-behind : (i : ℕ) → getD (overAt at n f d) (at + (n + i)) z ≡ getD d (at + n + i) z

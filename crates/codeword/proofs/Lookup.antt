@@ -1,19 +1,20 @@
 -- Where a word stands in the table of readings, and what it is read as there.
 -- Assumes nothing.
-use mathlib.Core.Path.{_≡_, refl, ap, _∙_}
+use mathlib.Core.Path.{_≡_, refl, ap, ap₂, _∙_}
+use mathlib.Core.Bool.{true}
 use mathlib.Core.List.{List}
-use Prim.Native.Nat.{ℕ, zero, suc, _+_, _-_, _^_, _≤_, _<_}
+use Prim.Native.Nat.{ℕ, zero, suc, _+_, _-_, _/_, _%_, _^_, _≤_, _<_}
 use native.Mathlib.Nat.{pow-le-pow-right}
 use native.Mathlib.Omega.{arith}
 use borrow.Author.Tests.{lt-ltb, le-ltb}
 use lib.ListN.{getD}
 use Rattle.bits.proofs.Tabs.{getD-tab}
-use Rattle.codeword.specs.Codeword.{readAs, nibbleOf}
+use Rattle.codeword.specs.Codeword.{readAs, nibbleOf, flippedBit, isRepaired}
 use Rattle.codeword.specs.Ranges.{Rate}
 use Rattle.codeword.specs.Readings.{numberOfFound, readingOf, readingAt, readingTable}
 use Rattle.codeword.specs.declared.Found.{Found}
 use Rattle.codeword.specs.declared.Found.the-variants.{Taken, Repaired, Unreadable}
-use Rattle.codeword.proofs.CodeLaws.{nibble-lt}
+use Rattle.codeword.proofs.CodeLaws.{nibble-lt, flipped-lt}
 
 -- the place of a word in the table
 unfoldable pub placeOf : ℕ → ℕ → ℕ
@@ -50,18 +51,23 @@ module _ {cr w k : ℕ} (rate : Rate cr) (word : w < 2 ^ (4 + cr)) (at : k ≡ p
   entry-is {table} t = ap (λ (l : List ℕ). getD l k 0) t ∙ getD-tab 480 readingAt k 0 place-lt ∙ reading-at cr w k rate word behind .0
 
 -- what a number is the reading of
-module _ (cr w : ℕ) {e : ℕ} (entry : e ≡ readingOf cr w) where
-  by-number : (f : Found) → nibbleOf f < 16 → e ≡ numberOfFound f
-      → (e < 16 → Taken e ≡ f) × (16 ≤ e → e < 32 → Repaired (e - 16) ≡ f) × (32 ≤ e → Unreadable ≡ f)
-  by-number (Taken d) l p = (λ h. ap Taken p, λ h i. absurd (omega arith), λ h. absurd (omega arith))
-  by-number (Repaired d) l p = (λ h. absurd (omega arith), λ h i. ap Repaired (omega arith), λ h. absurd (omega arith))
-  by-number Unreadable l p = (λ h. absurd (omega arith), λ h i. absurd (omega arith), λ h. refl)
+module _ (cr w : ℕ) (rate : Rate cr) (word : w < 2 ^ (4 + cr)) {e : ℕ} (entry : e ≡ readingOf cr w) where
+  by-number : (f : Found) → nibbleOf f < 16 → (isRepaired f ≡ true → flippedBit f < 8) → e ≡ numberOfFound f
+      → (e < 128 → Repaired (e % 16) (e / 16) ≡ f) × (128 ≤ e → e < 144 → Taken (e % 16) ≡ f) × (144 ≤ e → Unreadable ≡ f)
+  by-number (Taken d) l b p = (λ h. absurd (omega arith), λ h i. ap Taken (omega arith), λ h. absurd (omega arith))
+  by-number (Repaired d j) l b p =
+      let s : j < 8 = b refl in
+      (λ h. ap₂ Repaired (omega arith) (omega arith), λ h i. absurd (omega arith), λ h. absurd (omega arith))
+  by-number Unreadable l b p = (λ h. absurd (omega arith), λ h i. absurd (omega arith), λ h. refl)
 
-  pub read-taken : e < 16 → Taken e ≡ readAs cr w
-  read-taken = by-number (readAs cr w) (nibble-lt cr w) entry .0
+  by-entry : (e < 128 → Repaired (e % 16) (e / 16) ≡ readAs cr w) × (128 ≤ e → e < 144 → Taken (e % 16) ≡ readAs cr w) × (144 ≤ e → Unreadable ≡ readAs cr w)
+  by-entry = by-number (readAs cr w) (nibble-lt cr w) (λ h. omega (arith, flipped-lt cr w rate word h, rate .high)) entry
 
-  pub read-repaired : 16 ≤ e → e < 32 → Repaired (e - 16) ≡ readAs cr w
-  read-repaired = by-number (readAs cr w) (nibble-lt cr w) entry .1
+  pub read-repaired : e < 128 → Repaired (e % 16) (e / 16) ≡ readAs cr w
+  read-repaired = by-entry .0
 
-  pub read-unreadable : 32 ≤ e → Unreadable ≡ readAs cr w
-  read-unreadable = by-number (readAs cr w) (nibble-lt cr w) entry .2
+  pub read-taken : 128 ≤ e → e < 144 → Taken (e % 16) ≡ readAs cr w
+  read-taken = by-entry .1
+
+  pub read-unreadable : 144 ≤ e → Unreadable ≡ readAs cr w
+  read-unreadable = by-entry .2

@@ -34,27 +34,40 @@ codeword cr d = number (4 + cr) (codewordBit cr d)
 unfoldable pub apart : ℕ → ℕ → ℕ → ℕ
 apart cr v w = howMany (λ j. not (eqb (bit j v) (bit j w))) (4 + cr)
 
+-- a word of CR + 4 bits with its bit j flipped
+unfoldable pub flipped : ℕ → ℕ → ℕ → ℕ
+flipped cr j w = number (4 + cr) (λ k. cond (eqb k j) (1 - bit k w) (bit k w))
+
+-- the bit that a word is repaired at: flipping it makes the word the codeword of d
+unfoldable pub bitTo : ℕ → ℕ → ℕ → ℕ
+bitTo cr w d = first (λ j. eqb (flipped cr j w) (codeword cr d)) (4 + cr) 0
+
 -- what a word of CR + 4 bits is read as: found in the code it is taken; at CR 3 and 4 a word one bit away from a codeword
--- is repaired to it; else it can't be read. `away n` is the nibble whose codeword is n bits away, 16 where there is none;
--- that there is at most one is proved in proofs/CodeLaws.antt, `one-taken` and `one-repaired`, and that at CR 3 every word
--- can be read in proofs/Perfect.antt, `always-read`
+-- is repaired to it, by flipping that bit; else it can't be read. `away n` is the nibble whose codeword is n bits away, 16 where
+-- there is none; that there is at most one is proved in proofs/CodeLaws.antt, `one-taken` and `one-repaired`, that there is such
+-- a bit there too, `repaired-by`, and that at CR 3 every word can be read in proofs/Perfect.antt, `always-read`
 unfoldable pub readAs : ℕ → ℕ → Found
 readAs cr w =
     let away : ℕ → ℕ = λ n. first (λ d. eqb (apart cr w (codeword cr d)) n) 16 0 in
-    cond (ltb (away 0) 16) (Taken (away 0)) (cond (leb 3 cr && ltb (away 1) 16) (Repaired (away 1)) Unreadable)
+    cond (ltb (away 0) 16) (Taken (away 0)) (cond (leb 3 cr && ltb (away 1) 16) (Repaired (away 1) (bitTo cr w (away 1))) Unreadable)
 
--- the nibble that is read, whether it is a repair, and whether there is none
+-- the nibble that is read, the bit that was flipped (8 where none was), whether it is a repair, and whether there is none
 abbrev pub nibbleOf : Found → ℕ
 nibbleOf (Taken d) = d
-nibbleOf (Repaired d) = d
+nibbleOf (Repaired d j) = d
 nibbleOf Unreadable = 0
+
+abbrev pub flippedBit : Found → ℕ
+flippedBit (Taken d) = 8
+flippedBit (Repaired d j) = j
+flippedBit Unreadable = 8
 
 abbrev pub isRepaired : Found → Bool
 isRepaired (Taken d) = false
-isRepaired (Repaired d) = true
+isRepaired (Repaired d j) = true
 isRepaired Unreadable = false
 
 abbrev pub isUnreadable : Found → Bool
 isUnreadable (Taken d) = false
-isUnreadable (Repaired d) = false
+isUnreadable (Repaired d j) = false
 isUnreadable Unreadable = true

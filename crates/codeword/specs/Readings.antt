@@ -2,18 +2,18 @@
 -- Assumes nothing.
 use mathlib.Core.Bool.{cond}
 use mathlib.Core.List.{List}
-use Prim.Native.Nat.{ℕ, _+_, _-_}
+use Prim.Native.Nat.{ℕ, _+_, _-_, _*_}
 use lib.Dec.{ltb}
 use Rattle.bits.specs.Tab.{tab}
 use Rattle.codeword.specs.Codeword.{readAs}
 use Rattle.codeword.specs.declared.Found.{Found}
 use Rattle.codeword.specs.declared.Found.the-variants.{Taken, Repaired, Unreadable}
 
--- a reading as a number: a nibble is taken, 16 more is repaired to it, 32 can't be read
+-- a reading as a number: 16 times the bit that is flipped and the nibble; 8 for the bit is taken, and 9 can't be read
 abbrev pub numberOfFound : Found → ℕ
-numberOfFound (Taken d) = d
-numberOfFound (Repaired d) = 16 + d
-numberOfFound Unreadable = 32
+numberOfFound (Taken d) = 16 * 8 + d
+numberOfFound (Repaired d j) = 16 * j + d
+numberOfFound Unreadable = 16 * 9
 
 abbrev pub readingOf : ℕ → ℕ → ℕ
 readingOf cr w = numberOfFound (readAs cr w)

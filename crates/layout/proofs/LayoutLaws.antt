@@ -226,3 +226,29 @@ module _ (F : Frame) (v : Valid F) where
           let (five, twelve) = rows-range F v in
           div-lt-iff-lt-mul {k = n} {x = i - rowsOfFirst (F .sf)} {y = L} (omega arith) .1
           (omega (arith, ltb-false i (rowsOfFirst (F .sf)) e, later-enough F nibbles v, mul-comm n L))
+
+  -- no codeword stands before block 0
+  first-at : (i : ℕ) → i < blockOf F 0 .codeword → ⊥
+  unfolding blockOf firstBlock
+  first-at i l = omega arith
+
+  -- the symbols of a codeword before block b stand before that block's
+  pub symbols-before : (b i : ℕ) → i < blockOf F b .codeword
+      → let B : Block = blockOf F (blockOfCodeword F i) in B .symbol + (B .rate + 4) ≤ blockOf F b .symbol
+  symbols-before zero i h = absurd (first-at i h)
+  symbols-before (suc b) i h = at (ltb i (blockOf F b .codeword)) refl (symbols-before b i)
+    where
+      next : blockOf F (suc b) .symbol ≡ blockOf F b .symbol + (blockOf F b .rate + 4)
+      next = rw add-one at (symbol-next F b)
+
+      at : (t : Bool) → ltb i (blockOf F b .codeword) ≡ t
+          → (i < blockOf F b .codeword → let B : Block = blockOf F (blockOfCodeword F i) in B .symbol + (B .rate + 4) ≤ blockOf F b .symbol)
+          → let B : Block = blockOf F (blockOfCodeword F i) in B .symbol + (B .rate + 4) ≤ blockOf F (suc b) .symbol
+      at true e earlier = omega (arith, next, earlier (ltb-true i (blockOf F b .codeword) e))
+      at false e earlier =
+          let from : blockOf F b .codeword ≤ i = ltb-false i (blockOf F b .codeword) e in
+          let k : ℕ = i - blockOf F b .codeword in
+          let is : blockOf F b .codeword + k ≡ i = omega arith in
+          let below : i < blockOf F b .codeword + blockOf F b .rows = rw (← codeword-next F b, add-one) h in
+          let own : blockOfCodeword F i ≡ b = rw is at (codeword-in F v b k (omega arith)) in
+          rw own (omega (arith, next))

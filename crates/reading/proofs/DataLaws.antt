@@ -3,15 +3,18 @@
 use mathlib.Core.Path.{_≡_, ap, _∙_}
 use mathlib.Core.Bool.{Bool}
 use mathlib.Core.List.{List}
-use Prim.Native.Nat.{ℕ, _+_, _-_, _≤_, _<_, min}
+use Prim.Native.Nat.{ℕ, _+_, _-_, _*_, _≤_, _<_, min}
 use native.Mathlib.Omega.{arith}
 use lib.ListN.{length}
+use Rattle.bits.specs.Tab.{overAt}
 use Rattle.layout.specs.declared.Block.{Block}
 use Rattle.layout.specs.declared.Frame.{Frame}
-use Rattle.layout.specs.Layout.{rowsOfFirst, blockOf, firstBlock, remaining}
+use Rattle.layout.specs.Layout.{rowsOfFirst, blockOf, firstBlock, remaining, laterBlocks, symbolCount}
 use Rattle.layout.specs.Ranges.{Valid}
+use Rattle.layout.proofs.LayoutLaws.{no-later}
 use Rattle.reading.specs.Found.{foundAt}
-use Rattle.reading.specs.Stages.{gridOfSymbols, rowsFrom, dataFound, laterFound, Walk}
+use Rattle.reading.specs.Stages.{gridOfSymbols, readRow, rowsFrom, dataFound, laterFound, Walk, listed, flips, Marked}
+use Rattle.reading.proofs.HurtLaws.{marked-none, marked-more}
 use Rattle.reading.proofs.ReadLoop.{walk-range, walk-long, walk-on}
 use Rattle.reading.proofs.ReadingLaws.{walk-same}
 use Rattle.reading.proofs.RowLaws.{row-found}
@@ -31,9 +34,34 @@ module _ (F : Frame) (symbols : List ℕ) (n : ℕ) {m end r : ℕ} {B : Block} 
   first-walk =
       walk-same w (λ i l. row-found F 0 symbols (F .header) i v is (rw is grid) (omega arith) ∙ ap (foundAt F symbols) (omega (arith, zero-fits F v is)))
 
+  -- all of them were read, and the symbols of block 0 marked
+  pub first-marked : (old′ : List ℕ) {counts new′ : List ℕ} → m ≤ end → counts ≡ flips (readRow (B .rate) g) (F .header + end) → length old′ ≡ 832
+      → new′ ≡ overAt (B .symbol) 8 (listed counts) old′ → Marked F symbols (F .header + m) 8 new′
+  unfolding blockOf firstBlock
+  first-marked old′ l count long write =
+      let (codeword, rate, first, header, high) = zero-fits F v is in
+      let all : F .header + end ≡ F .header + m = omega (arith, walk-range w) in
+      let at : B .symbol ≡ 0 = rw is in
+      let begun : Marked F symbols (B .codeword) (B .symbol) old′ = rw (codeword, at) (marked-none F symbols old′) in
+      let columns : B .symbol + (B .rate + 4) ≡ 8 = omega (arith, at, rate) in
+      let done : B .codeword + (F .header + m) ≡ F .header + m = omega (arith, codeword) in
+      rw (columns, done) at
+      (marked-more F v symbols 0 is (rw is grid) (omega arith) (rw all at count) (omega (arith, rate)) (omega (arith, at, long)) write begun)
+
   -- one of them can't be read, or the data end there
   pub data-stop : end < B .rows - F .header → Walk (dataFound F symbols) n (F .header) old mid end r
   data-stop l = walk-long first-walk (omega arith) (λ h. omega arith)
+
+  -- and where the data end there no block follows
+  pub data-marked : (old′ : List ℕ) {counts new′ : List ℕ} → n ≤ end → end < B .rows - F .header → counts ≡ flips (readRow (B .rate) g) (F .header + end) → length old′ ≡ 832
+      → new′ ≡ overAt (B .symbol) 8 (listed counts) old′ → Marked F symbols (F .header + n) (symbolCount F (F .header + n)) new′
+  unfolding symbolCount rowsOfFirst
+  data-marked old′ all l count long write =
+      let (codeword, rate, first, header, high) = zero-fits F v is in
+      let none : laterBlocks F (F .header + n) ≡ 0 = no-later F (F .header + n) v (omega (arith, first)) in
+      let eight : 8 + (F .cr + 4) * laterBlocks F (F .header + n) ≡ 8 = rw none (omega arith) in
+      let e : m ≡ n = omega arith in
+      rw eight (rw e at (first-marked old′ (omega arith) count long write))
 
   -- the data go on in the later blocks
   pub data-on : {t s : ℕ} {new : List ℕ} → B .rows - F .header ≤ end → F .header + n ≤ length old

@@ -1,4 +1,5 @@
 pub mod DataLaws
+pub mod HurtLaws
 pub mod LaterLaws
 pub mod ReadLoop
 pub mod ReadingLaws

@@ -3,18 +3,19 @@
 use mathlib.Core.Bool.{Bool}
 use mathlib.Core.List.{List}
 use mathlib.Core.Path.{_≡_}
-use Prim.Native.Nat.{ℕ, _+_}
+use Prim.Native.Nat.{ℕ, _+_, _<_}
 use lib.ListN.{getD}
 use Rattle.bits.specs.Search.{first, howMany}
 use Rattle.bits.specs.Tab.{over, overAt, blank}
+use Rattle.bits.specs.Tally.{tallied}
 use Rattle.block.specs.Block.{wordOfNumber}
 use Rattle.block.specs.Grid.{gridOfWords, codewordOfGrid}
-use Rattle.codeword.specs.Codeword.{readAs}
+use Rattle.codeword.specs.Codeword.{readAs, flippedBit}
 use Rattle.codeword.specs.declared.Found.{Found}
 use Rattle.layout.specs.declared.Block.{Block}
 use Rattle.layout.specs.declared.Frame.{Frame}
 use Rattle.layout.specs.Layout.{rowsOfFirst}
-use Rattle.reading.specs.Found.{foundAt, unreadableAt, repairedAt, nibbleAt}
+use Rattle.reading.specs.Found.{foundAt, unreadableAt, repairedAt, nibbleAt, hurtAt}
 
 -- the symbol word received in column j of a block
 unfoldable pub symbolWord : Block → List ℕ → ℕ → ℕ
@@ -48,3 +49,11 @@ pub record Walk (found : ℕ → Found) (n at : ℕ) (old new : List ℕ) (end r
 -- the nibbles of a list
 unfoldable pub listed : List ℕ → ℕ → ℕ
 listed l i = getD l i 0
+
+-- how often each bit is flipped in the first n codewords of a block, in cells 0 to 7; cell 8 counts those with no repair
+unfoldable pub flips : (ℕ → Found) → ℕ → List ℕ
+flips found n = tallied 9 (λ i. flippedBit (found i)) n
+
+-- each cell below the end tells how many of the first n codewords are repaired in its symbol
+pub record Marked (F : Frame) (symbols : List ℕ) (n end : ℕ) (hurts : List ℕ) : Type 0 where
+  pub cells : (t : ℕ) → t < end → getD hurts t 0 ≡ hurtAt F symbols n t

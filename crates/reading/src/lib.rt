@@ -2,20 +2,24 @@
 ghost use mathlib.Core.Path.{_≡_};
 ghost use Prim.Native.Nat.{ℕ, _+_, _≤_, _<_, min};
 ghost use lib.ListN.{length, getD};
-ghost use Rattle.bits.specs.Tab.{over, blank};
+ghost use Rattle.bits.specs.Tab.{over, overAt, blank};
 ghost use Rattle.codeword.specs.Ranges.{Rate};
 ghost use Rattle.codeword.specs.Readings.{readingTable};
 ghost use Rattle.layout.specs.Layout.{rowsOfFirst, firstBlock, remaining, symbolCount};
 ghost use Rattle.layout.specs.Ranges.{Valid, Fits};
 ghost use Rattle.reading.specs.Payload.{byteOfNibbles, payloadByte, sentChecksum};
-ghost use Rattle.reading.specs.Stages.{symbolWord, gridOfSymbols, rowsFrom, dataFound, laterFound, Walk, listed};
+ghost use Rattle.reading.specs.Stages.{symbolWord, gridOfSymbols, readRow, rowsFrom, dataFound, laterFound, Walk, listed, flips, Marked};
 use codeword::WORDS;
 use layout::Block;
 use layout::Frame;
 use layout::LONGEST;
+use layout::MOST_SYMBOLS;
 
 // The most nibbles that a frame has.
 pub const NIBBLES: usize = 519;
+
+// The counts of a block: how often each of a codeword's 8 bits was flipped, and how many codewords had no repair.
+pub const FLIPS: usize = 9;
 
 // How far a run of codewords was read, and the repairs on the way.
 pub struct Progress {
@@ -63,7 +67,7 @@ pub fn first_grid(sf: u8, symbols: &[u16]) -> [[bool; 8]; 12]
 }
 
 // Reads n codewords of a block's grid, from its row `from` on, into the nibbles from the place at on, up to the first that
-// can't be read.
+// can't be read. The flips of the rows before are counted on.
 pub fn read_rows(
     readings: &[u8; WORDS],
     rate: u8,
@@ -72,9 +76,10 @@ pub fn read_rows(
     n: usize,
     at: usize,
     nibbles: &mut [u8; NIBBLES],
+    counts: &mut [u8; FLIPS],
 ) -> Progress
-    requires { ⌜ (now readings ≡ readingTable) × Rate rate × (from + n ≤ 12) × (at + n ≤ 519) × (length (now nibbles) ≡ 519) ⌝ }
-    ensures { λ r. ⌜ Walk (rowsFrom rate (now (g .entry)) from) n at (now (nibbles .entry)) (now (nibbles .exit)) (r .end) (r .repairs) ⌝ }
+    requires { ⌜ (now readings ≡ readingTable) × Rate rate × (from + n ≤ 12) × (at + n ≤ 519) × (length (now nibbles) ≡ 519) × (now counts ≡ flips (readRow rate (now g)) from) ⌝ }
+    ensures { λ r. ⌜ Walk (rowsFrom rate (now (g .entry)) from) n at (now (nibbles .entry)) (now (nibbles .exit)) (r .end) (r .repairs) × (now (counts .exit) ≡ flips (readRow rate (now (g .entry))) (from + r .end)) ⌝ }
 {
     let columns = 4 + bits::wide(rate);
     let mut repairs = 0;
@@ -86,20 +91,34 @@ pub fn read_rows(
         }
         nibbles[at + i] = codeword::nibble(found);
         repairs += codeword::repaired(found) as usize;
+        let bit = bits::wide(codeword::flipped_bit(found));
+        counts[bit] += 1;
     }
     Progress { end: n, repairs }
 }
 
-// Reads the codewords behind block 0, in a frame of n codewords, up to the first that can't be read.
+// Writes a block's counts to the cells of its symbols, from the place at on. It writes eight, which is faster than as many as
+// there are columns; what stands behind the block's own is written again with the next block.
+fn mark(counts: &[u8; FLIPS], at: usize, hurts: &mut [u8; MOST_SYMBOLS])
+    requires { ⌜ (at + 8 ≤ 832) × (length (now hurts) ≡ 832) ⌝ }
+    ensures { λ _. ⌜ now (hurts .exit) ≡ overAt at 8 (listed (now (counts .entry))) (now (hurts .entry)) ⌝ }
+{
+    for j in 0..8usize {
+        hurts[at + j] = counts[j];
+    }
+}
+
+// Reads the codewords behind block 0, in a frame of n codewords, up to the first that can't be read, and marks their symbols.
 fn read_later(
     readings: &[u8; WORDS],
     f: Frame,
     symbols: &[u16],
     n: usize,
     nibbles: &mut [u8; NIBBLES],
+    hurts: &mut [u8; MOST_SYMBOLS],
 ) -> Progress
-    requires { ⌜ (now readings ≡ readingTable) × Valid f × (rowsOfFirst (f .sf) ≤ n) × (n ≤ 519) × (symbolCount f n ≤ length (now symbols)) × (length (now nibbles) ≡ 519) ⌝ }
-    ensures { λ r. ⌜ Walk (laterFound f (now (symbols .entry))) (remaining f n) (rowsOfFirst (f .sf)) (now (nibbles .entry)) (now (nibbles .exit)) (r .end) (r .repairs) ⌝ }
+    requires { ⌜ (now readings ≡ readingTable) × Valid f × (rowsOfFirst (f .sf) ≤ n) × (n ≤ 519) × (symbolCount f n ≤ length (now symbols)) × (length (now nibbles) ≡ 519) × (length (now hurts) ≡ 832) × Marked f (now symbols) (rowsOfFirst (f .sf)) 8 (now hurts) ⌝ }
+    ensures { λ r. ⌜ Walk (laterFound f (now (symbols .entry))) (remaining f n) (rowsOfFirst (f .sf)) (now (nibbles .entry)) (now (nibbles .exit)) (r .end) (r .repairs) × (remaining f n ≤ r .end → Marked f (now (symbols .entry)) n (symbolCount f n) (now (hurts .exit))) ⌝ }
 {
     let start = layout::first_block(f.sf).rows;
     let blocks = layout::later_blocks(f, n) + 1;
@@ -109,7 +128,9 @@ fn read_later(
         let at = b.codeword;
         let rows = least(b.rows, n - at);
         let g = grid_of_block(b, symbols);
-        let p = read_rows(readings, b.rate, &g, 0, rows, at, nibbles);
+        let mut counts = [0u8; FLIPS];
+        let p = read_rows(readings, b.rate, &g, 0, rows, at, nibbles, &mut counts);
+        mark(&counts, b.symbol, hurts);
         repairs += p.repairs;
         if p.end < rows {
             return Progress {
@@ -124,28 +145,32 @@ fn read_later(
     }
 }
 
-// Reads the n data codewords of a frame, those behind its header, up to the first that can't be read; `first` is the grid of
-// block 0.
+// Reads the n data codewords of a frame, those behind its header, up to the first that can't be read, and marks the frame's
+// symbols; `first` is the grid of block 0, and `before` has the counts of its header's codewords.
 pub fn read_data(
     readings: &[u8; WORDS],
     f: Frame,
     first: &[[bool; 8]; 12],
+    before: [u8; FLIPS],
     symbols: &[u16],
     n: usize,
     nibbles: &mut [u8; NIBBLES],
+    hurts: &mut [u8; MOST_SYMBOLS],
 ) -> Progress
-    requires { ⌜ (now readings ≡ readingTable) × Valid f × (now first ≡ gridOfSymbols (firstBlock (f .sf)) (now symbols)) × (f .header + n ≤ 519) × (symbolCount f (f .header + n) ≤ length (now symbols)) × (length (now nibbles) ≡ 519) ⌝ }
-    ensures { λ r. ⌜ Walk (dataFound f (now (symbols .entry))) n (f .header) (now (nibbles .entry)) (now (nibbles .exit)) (r .end) (r .repairs) ⌝ }
+    requires { ⌜ (now readings ≡ readingTable) × Valid f × (now first ≡ gridOfSymbols (firstBlock (f .sf)) (now symbols)) × (before ≡ flips (readRow 4 (now first)) (f .header)) × (f .header + n ≤ 519) × (symbolCount f (f .header + n) ≤ length (now symbols)) × (length (now nibbles) ≡ 519) × (length (now hurts) ≡ 832) ⌝ }
+    ensures { λ r. ⌜ Walk (dataFound f (now (symbols .entry))) n (f .header) (now (nibbles .entry)) (now (nibbles .exit)) (r .end) (r .repairs) × (n ≤ r .end → Marked f (now (symbols .entry)) (f .header + n) (symbolCount f (f .header + n)) (now (hurts .exit))) ⌝ }
 {
     let header = f.header;
     let b = layout::first_block(f.sf);
     let inside = b.rows - header;
     let rows = least(inside, n);
-    let p = read_rows(readings, b.rate, first, header, rows, header, nibbles);
+    let mut counts = before;
+    let p = read_rows(readings, b.rate, first, header, rows, header, nibbles, &mut counts);
+    mark(&counts, b.symbol, hurts);
     if p.end < inside {
         return p;
     }
-    let rest = read_later(readings, f, symbols, header + n, nibbles);
+    let rest = read_later(readings, f, symbols, header + n, nibbles, hurts);
     Progress {
         end: inside + rest.end,
         repairs: p.repairs + rest.repairs,

@@ -52,13 +52,13 @@ element-copy-out-entry : tie.Need-element-copy-out-entry
 element-copy-out-entry c = let (table, rate, word) = begin c .pre in omega (arith, place-lt rate word (place c))
 
 returns : tie.Need-returns
-returns c = read-taken _ _ (entry (c .before .before)) (c .if1 .taken)
+returns c = let b = c .before .before in let (table, rate, word) = begin b .pre in read-repaired _ _ rate word (entry b) (c .if1 .taken)
 
 returns-2 : tie.Need-returns-2
-returns-2 c = read-repaired _ _ (entry (c .before .before .before)) (c .before .if1 .left) (c .if2 .taken)
+returns-2 c = let b = c .before .before .before in let (table, rate, word) = begin b .pre in read-taken _ _ rate word (entry b) (c .before .if1 .left) (c .if2 .taken)
 
 returns-3 : tie.Need-returns-3
-returns-3 c = read-unreadable _ _ (entry (c .before .before .before)) (c .if2 .left)
+returns-3 c = let b = c .before .before .before in let (table, rate, word) = begin b .pre in read-unreadable _ _ rate word (entry b) (c .if2 .left)
 
 pub read-word-spec : {M : Type 1} → statement M
 read-word-spec =

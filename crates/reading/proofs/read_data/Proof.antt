@@ -1,21 +1,26 @@
--- The rest of block 0 is read, and then the later blocks.
+-- The rest of block 0 is read and marked, and then the later blocks.
 use mathlib.Core.Path.{_≡_, _∙_}
 use Prim.Native.Nat.{_+_, _≤_}
 use native.Mathlib.Omega.{arith}
 use lib.ListN.{length}
-use Rattle.layout.specs.Layout.{rowsOfFirst, remaining}
-use Rattle.reading.proofs.DataLaws.{zero-fits, data-stop, data-on}
+use Rattle.layout.specs.Layout.{rowsOfFirst, firstBlock, remaining}
+use Rattle.reading.proofs.DataLaws.{zero-fits, first-marked, data-stop, data-marked, data-on}
+use Rattle.reading.proofs.HurtLaws.{mark-length}
 use Rattle.reading.proofs.ReadLoop.{walk-range, walk-le, walk-length}
 use borrow.Author.Needs.{needs}
 use Rattle.reading.proofs.read_data.Statement.{statement}
 use Rattle.reading.proofs.read_data.Tie as tie
 
--- the beginning, from where block 0 is known, and that place, from where its rows have been read
+-- the beginning, from where block 0 is known; that place, from where its rows have been read; and that one, from where its symbols
+-- have been marked
 abbrev begin : tie.After-first-block → tie.Start
 begin c = c .before .before
 
 abbrev zero : tie.After-read-rows → tie.After-first-block
-zero c = c .before .before .before .before
+zero c = c .before .before .before .before .before
+
+abbrev rows : tie.After-mark → tie.After-read-rows
+rows c = c .before .before .before
 
 fits : (c : tie.After-first-block) →
     let F = begin c .args .f in
@@ -25,7 +30,7 @@ fits c = zero-fits _ (begin c .pre .1) (c .first-block .ensures)
 
 -- there is room for all codewords
 room : (c : tie.Start) → c .args .f .header + c .args .n ≤ length (c .args .nibbles .now)
-room c = omega (arith, c .pre .3, c .pre .5)
+room c = omega (arith, c .pre .4, c .pre .6)
 
 first-block-requires : tie.Need-first-block-requires
 first-block-requires c κs = search needs
@@ -37,55 +42,90 @@ least-requires : tie.Need-least-requires
 least-requires c κs = search needs
 
 read-rows-requires : tie.Need-read-rows-requires
-read-rows-requires c κs = let z = c .before .before .before in
+read-rows-requires c κs = let z = c .before .before .before .before in
     let p = begin z .pre in (
       p .0,
       record { low = omega (arith, fits z); high = omega (arith, fits z) },
-      omega (arith, fits z, c .before .least .ensures),
-      omega (arith, c .before .least .ensures, p .3),
-      p .5,
+      omega (arith, fits z, c .before .before .least .ensures),
+      omega (arith, c .before .before .least .ensures, p .4),
+      p .6,
+      rw (fits z .1) (p .3),
     )
 
+mark-room : (c : tie.After-read-rows) → zero c .first-block .result .symbol + 8 ≤ 832
+unfolding firstBlock
+mark-room c =
+    let at : zero c .first-block .result .symbol ≡ 0 = rw (zero c .first-block .ensures) in
+    omega (arith, at)
+
+mark-requires : tie.Need-mark-requires
+mark-requires c κs = (mark-room (c .before .before), begin (zero (c .before .before)) .pre .7)
+
 returns : tie.Need-returns
-returns c = let w = c .before .before in
+returns c = let m = c .before .before in
+    let w = rows m in
     let z = zero w in
-    data-stop _ _ _ (begin z .pre .1) (z .first-block .ensures) (begin z .pre .2) (w .read-rows .ensures) (w .before .before .least .ensures) (c .if1 .taken)
+    let p = begin z .pre in
+    let least = w .before .before .before .least .ensures in (
+      data-stop _ _ _ (p .1) (z .first-block .ensures) (p .2) (w .read-rows .ensures .0) least (c .if1 .taken),
+      λ h. data-marked _ _ _ (p .1) (z .first-block .ensures) (p .2) (w .read-rows .ensures .0) least _ h (c .if1 .taken) (w .read-rows .ensures .1) (p .7) (m .mark .ensures),
+    )
 
 add-read-later : tie.Need-add-read-later
 add-read-later c = search needs
 
 read-later-requires : tie.Need-read-later-requires
-read-later-requires c κs = let w = c .before .before .before in
+read-later-requires c κs = let e = c .before .before in
+    let m = e .before .before in
+    let w = rows m in
     let z = zero w in
-    let p = begin z .pre in (
+    let p = begin z .pre in
+    let least = w .before .before .before .least .ensures in
+    let all : begin z .args .f .header + w .before .before .before .least .result ≡ rowsOfFirst (begin z .args .f .sf)
+    = omega (arith, fits z, least, e .if1 .left, walk-range (w .read-rows .ensures .0)) in (
       p .0,
       p .1,
-      omega (arith, fits z, walk-range (w .read-rows .ensures), w .before .before .least .ensures, c .before .if1 .left),
-      p .3,
+      omega (arith, fits z, walk-range (w .read-rows .ensures .0), least, e .if1 .left),
       p .4,
-      walk-length (w .read-rows .ensures) (omega (arith, w .before .before .least .ensures, room (begin z))) ∙ p .5,
+      p .5,
+      walk-length (w .read-rows .ensures .0) (omega (arith, least, room (begin z))) ∙ p .6,
+      mark-length _ _ _ (mark-room (m .before .before .before)) (p .7) (m .mark .ensures),
+      rw all at (first-marked _ _ _ (p .1) (z .first-block .ensures) (p .2) (w .read-rows .ensures .0) least _ (omega (arith, least, e .if1 .left)) (w .read-rows .ensures .1) (p .7) (m .mark .ensures)),
     )
 
-add-t15 : tie.Need-add-t15
+add-t22 : tie.Need-add-t22
 unfolding remaining
-add-t15 c =
-    let w = c .before .before .before .before .before in
+add-t22 c =
+    let l = c .before in
+    let w = rows (l .before .before .before .before .before) in
     let z = zero w in
-    omega (arith, fits z, walk-range (c .before .read-later .ensures), begin z .pre .3)
+    omega (arith, fits z, walk-range (l .read-later .ensures .0), begin z .pre .4)
 
-add-t17 : tie.Need-add-t17
+add-t25 : tie.Need-add-t25
 unfolding remaining
-add-t17 c =
+add-t25 c =
     let l = c .before .before .before in
-    let w = l .before .before .before .before in
-    omega (arith, walk-le (w .read-rows .ensures), walk-le (l .read-later .ensures), walk-range (l .read-later .ensures), w .before .before .least .ensures, begin (zero w) .pre .3)
+    let w = rows (l .before .before .before .before .before) in
+    omega (
+      arith,
+      walk-le (w .read-rows .ensures .0),
+      walk-le (l .read-later .ensures .0),
+      walk-range (l .read-later .ensures .0),
+      w .before .before .before .least .ensures,
+      begin (zero w) .pre .4,
+    )
 
 returns-2 : tie.Need-returns-2
-returns-2 c = let l = c .before .before .before in
-    let w = l .before .before .before .before in
+unfolding remaining
+returns-2 c =
+    let l = c .before .before .before in
+    let e = l .before .before .before in
+    let w = rows (e .before .before) in
     let z = zero w in
-    data-on _ _ _ (begin z .pre .1) (z .first-block .ensures) (begin z .pre .2) (w .read-rows .ensures) (w .before .before .least .ensures)
-    (l .before .before .if1 .left) (room (begin z)) (l .read-later .ensures)
+    let p = begin z .pre in (
+      data-on _ _ _ (p .1) (z .first-block .ensures) (p .2) (w .read-rows .ensures .0) (w .before .before .before .least .ensures) (e .if1 .left) (room (begin z)) (l .read-later .ensures .0),
+      λ h. l .read-later .ensures .1 (omega (arith, fits z)),
+    )
 
 pub read-data-spec : {M : Type 1} → statement M
 read-data-spec =
@@ -95,9 +135,10 @@ read-data-spec =
     sub-inside
     least-requires
     read-rows-requires
+    mark-requires
     returns
     add-read-later
     read-later-requires
-    add-t15
-    add-t17
+    add-t22
+    add-t25
     returns-2)
