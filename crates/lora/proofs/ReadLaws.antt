@@ -9,7 +9,7 @@ use native.Mathlib.Omega.{arith}
 use lib.Dec.{leb, eqb}
 use lib.IntN.{ℤ}
 use lib.ListN.{length, getD, take, drop}
-use lib.Seq.{take-at}
+use lib.Seq.{take-at, length-take-le, getD-take}
 use borrow.Author.Tests.{lt-leb, le-leb}
 use Rattle.bits.specs.Check.{check}
 use Rattle.bits.specs.Search.{first, howMany}
@@ -26,10 +26,10 @@ use Rattle.layout.specs.declared.Frame.{Frame}
 use Rattle.layout.proofs.LayoutLaws.{symbols-ge}
 use Rattle.reading.specs.Found.{foundAt, unreadableAt, repairedAt}
 use Rattle.reading.specs.Payload.{payloadByte, sentChecksum}
-use Rattle.reading.specs.Stages.{gridOfSymbols, dataFound, listed, Walk}
+use Rattle.reading.specs.Stages.{gridOfSymbols, readRow, dataFound, listed, Walk, flips, Marked}
 use Rattle.reading.proofs.ReadingLaws.{blank-small, nibble-data-lt, walk-nibbles, walk-small, payload-cong, checksum-cong}
 use Rattle.lora.specs.Head.{isOver, firstOver, headerFound}
-use Rattle.lora.specs.Read.{overInRest, unreadableInData, nibbleFound, byteFound, sumHolds, repairsOf, acceptedOf, bodyOf, frameSaid}
+use Rattle.lora.specs.Read.{overInRest, unreadableInData, nibbleFound, byteFound, sumHolds, repairsOf, hurtFound, acceptedOf, bodyOf, frameSaid}
 use Rattle.lora.specs.Stages.{sumAgrees, Headed, dataOf}
 use Rattle.lora.specs.declared.Accepted.{Accepted}
 use Rattle.lora.specs.declared.Received.the-variants.{Payload, Refused}
@@ -152,58 +152,60 @@ module _ {F : Frame} {symbols : List ℕ} {len before : ℕ} {nibbles : List ℕ
       ap (λ (x : ℤ). Payload (record { length = len; cr = F .cr; checked = F .checked; symbols = symbolsOf F len; repairs = before + repairs; drift = x })) is
       ∙ rw (← run-ends, le-leb _ _ l, ← run-sum l d e, f, run-repairs l)
 
--- a payload that is answered has the length that the header says
-pub data-length : (F : Frame) (symbols : List ℕ) (len : ℕ) (a : Accepted) → dataOf F symbols len ≡ Payload a → a .length ≡ len
-unfolding dataOf acceptedOf
-data-length F symbols len a e = at (leb (nibblesOf F len) (unreadableInData F symbols len)) (sumHolds F symbols len) (acceptedOf F symbols len) refl e
-  where
-    at : (p q : Bool) (b : Accepted) → b .length ≡ len
-        → check p (Refused 7 (unreadableInData F symbols len)) (check q (Refused 12 0) (Payload b)) ≡ Payload a
-        → a .length ≡ len
-    at true true b g f = let same : a ≡ b = cc in rw same g
-    at true false b g f = absurd (let z : _≡_ {A = ℕ} 0 1 = cc in omega arith)
-    at false q b g f = absurd (let z : _≡_ {A = ℕ} 0 1 = cc in omega arith)
-
 -- the checks behind the header, in their order
-module _ (F : Frame) (symbols : List ℕ) (room len : ℕ) where
-  pub says-four : room < len → Refused 4 len ≡ bodyOf F symbols room len
+module _ (F : Frame) (symbols : List ℕ) (room marks len : ℕ) where
+  pub says-four : room < len → bodyOf F symbols room marks len ≡ Refused 4 len
   unfolding bodyOf
   says-four h = rw (lt-leb _ _ h)
 
   module _ {total : ℕ} (is : total ≡ symbolsOf F len) (fits : len ≤ room) where
-    pub says-five : length symbols < total → Refused 5 total ≡ bodyOf F symbols room len
+    pub says-four-marks : marks < total → bodyOf F symbols room marks len ≡ Refused 4 total
     unfolding bodyOf
-    says-five h = rw (← is, le-leb _ _ fits, lt-leb _ _ h)
+    says-four-marks h = rw (← is, le-leb _ _ fits, lt-leb _ _ h)
 
-    module _ {over : ℕ} (there : total ≤ length symbols) (found : over ≡ overInRest F symbols len) where
-      pub says-six : over < total → Refused 6 over ≡ bodyOf F symbols room len
+    module _ (listed : total ≤ marks) where
+      pub says-five : length symbols < total → bodyOf F symbols room marks len ≡ Refused 5 total
       unfolding bodyOf
-      says-six h = rw (← is, ← found, le-leb _ _ fits, le-leb _ _ there, lt-leb _ _ h)
+      says-five h = rw (← is, le-leb _ _ fits, le-leb _ _ listed, lt-leb _ _ h)
 
-      pub says-data : total ≤ over → dataOf F symbols len ≡ bodyOf F symbols room len
-      unfolding bodyOf dataOf
-      says-data h = rw (← is, ← found, le-leb _ _ fits, le-leb _ _ there, le-leb _ _ h)
+      module _ {over : ℕ} (there : total ≤ length symbols) (found : over ≡ overInRest F symbols len) where
+        pub says-six : over < total → bodyOf F symbols room marks len ≡ Refused 6 over
+        unfolding bodyOf
+        says-six h = rw (← is, ← found, le-leb _ _ fits, le-leb _ _ listed, le-leb _ _ there, lt-leb _ _ h)
+
+        pub says-data : total ≤ over → bodyOf F symbols room marks len ≡ dataOf F symbols len
+        unfolding bodyOf dataOf
+        says-data h = rw (← is, ← found, le-leb _ _ fits, le-leb _ _ listed, le-leb _ _ there, le-leb _ _ h)
 
 -- of a frame that is there whole, each symbol below 2^SF, the checks from 7 on decide
-pub body-data : (F : Frame) (symbols : List ℕ) (room len : ℕ) → len ≤ room → symbolsOf F len ≤ length symbols
-    → ((t : ℕ) → t < symbolsOf F len → getD symbols t 0 < 2 ^ (F .sf)) → bodyOf F symbols room len ≡ dataOf F symbols len
+pub body-data : (F : Frame) (symbols : List ℕ) (room marks len : ℕ) → len ≤ room → symbolsOf F len ≤ marks → symbolsOf F len ≤ length symbols
+    → ((t : ℕ) → t < symbolsOf F len → getD symbols t 0 < 2 ^ (F .sf)) → bodyOf F symbols room marks len ≡ dataOf F symbols len
 unfolding overInRest firstOver isOver
-body-data F symbols room len fits there below =
+body-data F symbols room marks len fits lists there below =
     let total : ℕ = symbolsOf F len in
     let eight : 8 ≤ total = symbols-ge F len in
     let none = first-none (isOver (F .sf) symbols) (total - 8) 8 (λ t a b. lt-leb _ _ (below t (omega (arith, eight)))) in
-    sym (says-data F symbols room len refl fits there refl (omega (arith, eight, none)))
+    says-data F symbols room marks len refl fits lists there refl (omega (arith, eight, none))
 
--- a listed payload, copied out
-pub copied : {payload : List ℕ} (n : ℕ) (byte : ℕ → ℕ) (d old : List ℕ) → payload ≡ over n byte d → over n (listed payload) old ≡ over n byte old
+-- the front of a list, copied out: the payload's bytes, and the symbols' marks
+copied : (n : ℕ) (l old : List ℕ) (f : ℕ → ℕ) → n ≤ length l → ((i : ℕ) → i < n → getD l i 0 ≡ f i) → over (length (take n l)) (listed (take n l)) old ≡ over n f old
 unfolding listed
-copied n byte d old e = over-cong n _ _ old (λ i l. rw e (getD-over n byte d i 0 l))
+copied n l old f room is = rw (length-take-le n l room) (over-cong n _ _ old (λ i h. getD-take n l i 0 h ∙ is i h))
+
+pub copied-payload : {payload : List ℕ} (F : Frame) (symbols : List ℕ) (len : ℕ) (old : List ℕ) → len ≤ length payload → payload ≡ over len (byteFound F symbols) (blank 255 0)
+    → over (length (take len payload)) (listed (take len payload)) old ≡ over len (byteFound F symbols) old
+copied-payload {payload} F symbols len old room e = copied len payload old _ room (λ i l. rw e (getD-over len (byteFound F symbols) (blank 255 0) i 0 l))
+
+pub copied-marks : {marks : List ℕ} {total : ℕ} (F : Frame) (symbols : List ℕ) (len : ℕ) (old : List ℕ) → total ≡ symbolsOf F len → total ≤ length marks
+    → Marked F symbols (nibblesOf F len) (symbolsOf F len) marks → over (length (take total marks)) (listed (take total marks)) old ≡ over (symbolsOf F len) (hurtFound F symbols len) old
+unfolding hurtFound
+copied-marks {marks} {total} F symbols len old is room m = rw is (copied (symbolsOf F len) marks old _ (rw is at room) (m .cells))
 
 -- where head says a header, the frame behind it can be read on
-pub headed : (sf : ℕ) (low : Bool) (symbols : List ℕ) (h : Header) {grid : List (List Bool)} {repairs : ℕ} → Heads sf symbols h
-    → grid ≡ gridOfSymbols (firstBlock sf) symbols → repairs ≡ howMany (repairedAt (headerFound sf symbols)) 5
-    → Headed (frameSaid sf low (h .cr) (h .checked)) symbols (h .length) grid repairs
-headed sf low symbols h {grid} {repairs} p g r =
+pub headed : (sf : ℕ) (low : Bool) (symbols : List ℕ) (h : Header) {grid : List (List Bool)} {repairs : ℕ} {counts : List ℕ} → Heads sf symbols h
+    → grid ≡ gridOfSymbols (firstBlock sf) symbols → repairs ≡ howMany (repairedAt (headerFound sf symbols)) 5 → counts ≡ flips (readRow 4 grid) 5
+    → Headed (frameSaid sf low (h .cr) (h .checked)) symbols (h .length) grid repairs counts
+headed sf low symbols h {grid} {repairs} p g r c =
     let F : Frame = frameSaid sf low (h .cr) (h .checked) in
     let v : Valid F = record { sf-low = p .sf-low; sf-high = p .sf-high; cr-low = p .cr-low; cr-high = p .cr-high; header-high = omega arith } in
     record {
@@ -211,5 +213,6 @@ headed sf low symbols h {grid} {repairs} p g r =
       short = p .short;
       starts = p .starts;
       first = g;
-      counts = r ∙ howMany-cong _ _ 5 (λ i l. ap isRepaired (sym (header-found F symbols v i l)));
+      repaired = r ∙ howMany-cong _ _ 5 (λ i l. ap isRepaired (sym (header-found F symbols v i l)));
+      flipped = c;
     }

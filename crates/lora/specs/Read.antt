@@ -1,5 +1,5 @@
--- The operation read: it checks what head checks; then 4 for the payload; 5 for the whole frame; 6 over the rest; 7 over data
--- codewords in frame order; 12. Symbols after the frame's own are ignored, fillers are skipped.
+-- The operation read: it checks what head checks; then 4 for the payload; 4 for the list of hurt symbols; 5 for the whole frame;
+-- 6 over the rest; 7 over data codewords in frame order; 12. Symbols after the frame's own are ignored, fillers are skipped.
 -- Assumes nothing.
 use mathlib.Core.Bool.{Bool, true, cond}
 use mathlib.Core.List.{List}
@@ -14,7 +14,7 @@ use Rattle.checksum.specs.Checksum.{checksum}
 use Rattle.drift.specs.Drift.{driftOf}
 use Rattle.layout.specs.Layout.{dataNibbles, nibblesOf, symbolsOf}
 use Rattle.layout.specs.declared.Frame.{Frame}
-use Rattle.reading.specs.Found.{foundAt, unreadableAt, repairedAt, nibbleAt}
+use Rattle.reading.specs.Found.{foundAt, unreadableAt, repairedAt, nibbleAt, hurtAt}
 use Rattle.reading.specs.Payload.{payloadByte, sentChecksum}
 use Rattle.lora.specs.Count.{frameOf}
 use Rattle.lora.specs.Head.{firstOver, headOf}
@@ -48,6 +48,10 @@ sumHolds F symbols len =
 unfoldable pub repairsOf : Frame → List ℕ → ℕ → ℕ
 repairsOf F symbols len = howMany (repairedAt (foundAt F symbols)) (nibblesOf F len)
 
+-- the repaired bits in symbol t, over the same codewords
+unfoldable pub hurtFound : Frame → List ℕ → ℕ → ℕ → ℕ
+hurtFound F symbols len = hurtAt F symbols (nibblesOf F len)
+
 -- the drift is the first symbol's
 unfoldable pub acceptedOf : Frame → List ℕ → ℕ → Accepted
 acceptedOf F symbols len =
@@ -60,32 +64,39 @@ acceptedOf F symbols len =
       drift = driftOf (F .sf) (getD symbols 0 0);
     }
 
--- what is checked behind the header, and the answer
-unfoldable pub bodyOf : Frame → List ℕ → ℕ → ℕ → Received
-bodyOf F symbols room len =
+-- what is checked behind the header, and the answer: there is room for so many bytes of payload, and for so many symbols' repairs
+unfoldable pub bodyOf : Frame → List ℕ → ℕ → ℕ → ℕ → Received
+bodyOf F symbols room marks len =
     check (leb len room) (Refused 4 len)
+    (check (leb (symbolsOf F len) marks) (Refused 4 (symbolsOf F len))
     (check (leb (symbolsOf F len) (length symbols)) (Refused 5 (symbolsOf F len))
     (check (leb (symbolsOf F len) (overInRest F symbols len)) (Refused 6 (overInRest F symbols len))
     (check (leb (nibblesOf F len) (unreadableInData F symbols len)) (Refused 7 (unreadableInData F symbols len))
     (check (sumHolds F symbols len) (Refused 12 0)
-    (Payload (acceptedOf F symbols len))))))
+    (Payload (acceptedOf F symbols len)))))))
 
 -- the frame whose header says this CR and this checksum flag
 abbrev pub frameSaid : ℕ → Bool → ℕ → Bool → Frame
 frameSaid sf low cr flag = frameOf (record { sf = sf; low = low; cr = cr; checked = flag })
 
-abbrev pub onward : Heading → ℕ → Bool → List ℕ → ℕ → Received
-onward (HeadRefused number place) sf low symbols room = Refused number place
-onward (Says h) sf low symbols room = bodyOf (frameSaid sf low (h .cr) (h .checked)) symbols room (h .length)
+abbrev pub onward : Heading → ℕ → Bool → List ℕ → ℕ → ℕ → Received
+onward (HeadRefused number place) sf low symbols room marks = Refused number place
+onward (Says h) sf low symbols room marks = bodyOf (frameSaid sf low (h .cr) (h .checked)) symbols room marks (h .length)
 
-unfoldable pub readOf : ℕ → Bool → List ℕ → ℕ → Received
-readOf sf low symbols room = onward (headOf sf symbols) sf low symbols room
+unfoldable pub readOf : ℕ → Bool → List ℕ → ℕ → ℕ → Received
+readOf sf low symbols room marks = onward (headOf sf symbols) sf low symbols room marks
 
 -- the lent buffer afterwards: the payload and what stood behind it; after a refusal as it was
 abbrev pub bytesAfter : Received → ℕ → Bool → List ℕ → List ℕ → List ℕ
 bytesAfter (Payload a) sf low symbols old = over (a .length) (byteFound (frameSaid sf low (a .cr) (a .checked)) symbols) old
 bytesAfter (Refused number place) sf low symbols old = old
 
-pub record Reading (sf : ℕ) (low : Bool) (symbols old new : List ℕ) (r : Received) : Type 0 where
-  pub answer : r ≡ readOf sf low symbols (length old)
+-- and the lent list: the repaired bits in each symbol used and what stood behind them; after a refusal as it was
+abbrev pub hurtsAfter : Received → ℕ → Bool → List ℕ → List ℕ → List ℕ
+hurtsAfter (Payload a) sf low symbols old = over (a .symbols) (hurtFound (frameSaid sf low (a .cr) (a .checked)) symbols (a .length)) old
+hurtsAfter (Refused number place) sf low symbols old = old
+
+pub record Reading (sf : ℕ) (low : Bool) (symbols old new hurts hurts′ : List ℕ) (r : Received) : Type 0 where
+  pub answer : r ≡ readOf sf low symbols (length old) (length hurts)
   pub cells : new ≡ bytesAfter r sf low symbols old
+  pub marks : hurts′ ≡ hurtsAfter r sf low symbols hurts

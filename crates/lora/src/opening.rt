@@ -4,12 +4,12 @@ ghost use Prim.Native.Nat.{_-_, _≤_};
 ghost use lib.Dec.{leb};
 ghost use lib.ListN.{length};
 ghost use Rattle.codeword.specs.Readings.{readingTable};
-ghost use Rattle.reading.specs.Stages.{rowsFrom};
 ghost use Rattle.lora.specs.Head.{firstOver, said, headOf};
 ghost use Rattle.lora.specs.Stages.{Entered, Opening};
 use crate::Heading;
 use codeword::WORDS;
 use header::Verdict;
+use reading::FLIPS;
 use reading::NIBBLES;
 
 // Whether no symbol from the index from on, up to the index end, is 2^SF or more. It looks at all of them, so that the compiler
@@ -47,7 +47,7 @@ pub fn first_over(sf: u8, symbols: &[u16], from: usize, end: usize) -> usize
     end
 }
 
-// How head's checks before the header end: passed, or refused.
+// How some checks end: passed, or refused.
 pub enum Entry {
     Passed,
     Refused { number: u8, place: usize },
@@ -88,19 +88,21 @@ fn said(v: Verdict) -> Heading
     }
 }
 
-// What a header says, and the repairs among its codewords.
+// What a header says, and among its codewords the repairs and how often each bit was flipped.
 pub struct Opened {
     pub heading: Heading,
     pub repairs: usize,
+    pub flips: [u8; FLIPS],
 }
 
 // Reads the header's codewords in the grid of block 0.
 pub fn header_of(readings: &[u8; WORDS], grid: &[[bool; 8]; 12]) -> Opened
     requires { ⌜ now readings ≡ readingTable ⌝ }
-    ensures { λ r. ⌜ Opening (rowsFrom 4 (now (grid .entry)) 0) (r .heading) (r .repairs) ⌝ }
+    ensures { λ r. ⌜ Opening (now (grid .entry)) (r .heading) (r .repairs) (r .flips) ⌝ }
 {
     let mut nibbles = [0u8; NIBBLES];
-    let progress = reading::read_rows(readings, 4, grid, 0, 5, 0, &mut nibbles);
+    let mut flips = [0u8; FLIPS];
+    let progress = reading::read_rows(readings, 4, grid, 0, 5, 0, &mut nibbles, &mut flips);
     let end = progress.end;
     if end < 5 {
         return Opened {
@@ -109,12 +111,14 @@ pub fn header_of(readings: &[u8; WORDS], grid: &[[bool; 8]; 12]) -> Opened
                 place: end,
             },
             repairs: 0,
+            flips,
         };
     }
     let verdict = header::judge([nibbles[0], nibbles[1], nibbles[2], nibbles[3], nibbles[4]]);
     Opened {
         heading: said(verdict),
         repairs: progress.repairs,
+        flips,
     }
 }
 

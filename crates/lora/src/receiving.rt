@@ -4,10 +4,11 @@ ghost use Prim.Native.Nat.{ℕ, _≤_, _<_};
 ghost use lib.ListN.{length, getD};
 ghost use Rattle.bits.specs.Tab.{over};
 ghost use Rattle.codeword.specs.Readings.{readingTable};
+ghost use Rattle.layout.specs.Layout.{symbolsOf};
 ghost use Rattle.layout.specs.Ranges.{Valid};
 ghost use Rattle.reading.specs.Stages.{listed};
-ghost use Rattle.lora.specs.Read.{Reading};
-ghost use Rattle.lora.specs.Stages.{Entered, sumAgrees, Headed, Decodable, Decoded, Bodied};
+ghost use Rattle.lora.specs.Read.{bodyOf, Reading};
+ghost use Rattle.lora.specs.Stages.{Entered, sumAgrees, Headed, dataOf, Admitted, Decodable, Decoded, Bodied};
 ghost use Rattle.lora.specs.declared.opening.Entry.the-variants.{Passed};
 use crate::Accepted;
 use crate::Heading;
@@ -19,6 +20,8 @@ use crate::opening::Entry;
 use codeword::WORDS;
 use layout::Frame;
 use layout::LONGEST;
+use layout::MOST_SYMBOLS;
+use reading::FLIPS;
 use reading::NIBBLES;
 
 // Whether the payload's checksum is the one that was sent, where there is one.
@@ -39,23 +42,35 @@ struct Body {
     answer: Received,
 }
 
-// Reads the data codewords of the frame, which is there whole and in range, behind a header with so many repairs.
+// Reads the data codewords of the frame, which is there whole and in range, behind a header with so many repairs and flips, and
+// marks the frame's symbols.
 fn decode(
     readings: &[u8; WORDS],
     f: Frame,
     grid: &[[bool; 8]; 12],
     repairs: usize,
+    flips: [u8; FLIPS],
     symbols: &[u16],
     len: usize,
     total: usize,
+    marks: &mut [u8; MOST_SYMBOLS],
 ) -> Body
-    requires { ⌜ (now readings ≡ readingTable) × Decodable f (now symbols) len (now grid) repairs total ⌝ }
-    ensures { λ r. ⌜ Decoded f (now (symbols .entry)) len (r .payload) (r .answer) ⌝ }
+    requires { ⌜ (now readings ≡ readingTable) × Decodable f (now symbols) len (now grid) repairs flips total × (length (now marks) ≡ 832) ⌝ }
+    ensures { λ r. ⌜ Decoded f (now (symbols .entry)) len (r .payload) (now (marks .exit)) (r .answer) ⌝ }
 {
     let header = f.header;
     let n = layout::nibbles_of(f, len);
     let mut nibbles = [0u8; NIBBLES];
-    let progress = reading::read_data(readings, f, grid, symbols, n - header, &mut nibbles);
+    let progress = reading::read_data(
+        readings,
+        f,
+        grid,
+        flips,
+        symbols,
+        n - header,
+        &mut nibbles,
+        marks,
+    );
     let end = header + progress.end;
     if end < n {
         return Body {
@@ -87,14 +102,87 @@ fn decode(
     Body { payload, answer }
 }
 
-// Writes the payload's first len bytes to the lent buffer.
-fn copy(payload: [u8; LONGEST], len: usize, out: &mut [u8])
-    requires { ⌜ (len ≤ 255) × (len ≤ length (now out)) ⌝ }
-    ensures { λ _. ⌜ now (out .exit) ≡ over len (listed payload) (now (out .entry)) ⌝ }
+// Writes some cells to the front of a lent list.
+fn copy(cells: &[u8], out: &mut [u8])
+    requires { ⌜ length (now cells) ≤ length (now out) ⌝ }
+    ensures { λ _. ⌜ now (out .exit) ≡ over (length (now (cells .entry))) (listed (now (cells .entry))) (now (out .entry)) ⌝ }
 {
-    for i in 0..len {
-        out[i] = payload[i];
+    for i in 0..cells.len() {
+        out[i] = cells[i];
     }
+}
+
+// Reads the data of a frame that is there whole, and hands payload and marks out only where all is well.
+fn deliver(
+    readings: &[u8; WORDS],
+    f: Frame,
+    grid: &[[bool; 8]; 12],
+    repairs: usize,
+    flips: [u8; FLIPS],
+    symbols: &[u16],
+    len: usize,
+    total: usize,
+    out: &mut [u8],
+    hurts: &mut [u8],
+) -> Received
+    requires { ⌜ (now readings ≡ readingTable) × Decodable f (now symbols) len (now grid) repairs flips total × (len ≤ length (now out)) × (total ≤ length (now hurts)) ⌝ }
+    ensures { λ r. ⌜ Bodied (dataOf f (now (symbols .entry)) len) f (now (symbols .entry)) len (now (out .entry)) (now (out .exit)) (now (hurts .entry)) (now (hurts .exit)) r ⌝ }
+{
+    let mut marks = [0u8; MOST_SYMBOLS];
+    let body = decode(
+        readings,
+        f,
+        grid,
+        repairs,
+        flips,
+        symbols,
+        len,
+        total,
+        &mut marks,
+    );
+    let payload = body.payload;
+    let answer = body.answer;
+    match answer {
+        Received::Refused { number, place } => Received::Refused { number, place },
+        Received::Payload(a) => {
+            copy(&payload[..len], out);
+            copy(&marks[..total], hurts);
+            Received::Payload(a)
+        }
+    }
+}
+
+// The checks of a frame of so many symbols from 4 to 6, with so many cells lent for its payload and for its marks.
+fn admit(f: Frame, symbols: &[u16], len: usize, total: usize, room: usize, marks: usize) -> Entry
+    requires { ⌜ Valid f × (total ≡ symbolsOf f len) ⌝ }
+    ensures { λ r. ⌜ Admitted r f (now (symbols .entry)) room marks len ⌝ }
+{
+    if room < len {
+        return Entry::Refused {
+            number: refusal::OUT_SHORT,
+            place: len,
+        };
+    }
+    if marks < total {
+        return Entry::Refused {
+            number: refusal::OUT_SHORT,
+            place: total,
+        };
+    }
+    if symbols.len() < total {
+        return Entry::Refused {
+            number: refusal::FEW_SYMBOLS,
+            place: total,
+        };
+    }
+    let over = opening::first_over(f.sf, symbols, 8, total);
+    if over < total {
+        return Entry::Refused {
+            number: refusal::SYMBOL_OVER,
+            place: over,
+        };
+    }
+    Entry::Passed
 }
 
 // Reads the frame behind a header that was read.
@@ -103,55 +191,47 @@ fn read_body(
     f: Frame,
     grid: &[[bool; 8]; 12],
     repairs: usize,
+    flips: [u8; FLIPS],
     symbols: &[u16],
     len: usize,
     out: &mut [u8],
+    hurts: &mut [u8],
 ) -> Received
-    requires { ⌜ (now readings ≡ readingTable) × Headed f (now symbols) len (now grid) repairs ⌝ }
-    ensures { λ r. ⌜ Bodied f (now (symbols .entry)) len (now (out .entry)) (now (out .exit)) r ⌝ }
+    requires { ⌜ (now readings ≡ readingTable) × Headed f (now symbols) len (now grid) repairs flips ⌝ }
+    ensures { λ r. ⌜ Bodied (bodyOf f (now (symbols .entry)) (length (now (out .entry))) (length (now (hurts .entry))) len) f (now (symbols .entry)) len (now (out .entry)) (now (out .exit)) (now (hurts .entry)) (now (hurts .exit)) r ⌝ }
 {
     let total = layout::symbols_of(f, len);
-    if out.len() < len {
-        return Received::Refused {
-            number: refusal::OUT_SHORT,
-            place: len,
-        };
-    }
-    if symbols.len() < total {
-        return Received::Refused {
-            number: refusal::FEW_SYMBOLS,
-            place: total,
-        };
-    }
-    let over = opening::first_over(f.sf, symbols, 8, total);
-    if over < total {
-        return Received::Refused {
-            number: refusal::SYMBOL_OVER,
-            place: over,
-        };
-    }
-    let body = decode(readings, f, grid, repairs, symbols, len, total);
-    let payload = body.payload;
-    let answer = body.answer;
-    match answer {
-        Received::Refused { number, place } => Received::Refused { number, place },
-        Received::Payload(a) => {
-            copy(payload, a.length, out);
-            Received::Payload(a)
+    let entry = admit(f, symbols, len, total, out.len(), hurts.len());
+    match entry {
+        Entry::Refused { number, place } => Received::Refused { number, place },
+        Entry::Passed => {
+            deliver(
+                readings,
+                f,
+                grid,
+                repairs,
+                flips,
+                symbols,
+                len,
+                total,
+                out,
+                hurts,
+            )
         }
     }
 }
 
 // Reads a frame whose checks before the header are passed. The table of readings is lent from here to header and data,
 // since a constant array is copied at each use.
-fn read_on(sf: u8, low: bool, symbols: &[u16], out: &mut [u8]) -> Received
+fn read_on(sf: u8, low: bool, symbols: &[u16], out: &mut [u8], hurts: &mut [u8]) -> Received
     requires { ⌜ Entered Passed sf (now symbols) ⌝ }
-    ensures { λ r. ⌜ Reading sf low (now (symbols .entry)) (now (out .entry)) (now (out .exit)) r ⌝ }
+    ensures { λ r. ⌜ Reading sf low (now (symbols .entry)) (now (out .entry)) (now (out .exit)) (now (hurts .entry)) (now (hurts .exit)) r ⌝ }
 {
     let grid = reading::first_grid(sf, symbols);
     let readings = codeword::readings();
     let opened = opening::header_of(&readings, &grid);
     let heading = opened.heading;
+    let flips = opened.flips;
     match heading {
         Heading::Refused { number, place } => Received::Refused { number, place },
         Heading::Says(h) => {
@@ -166,21 +246,23 @@ fn read_on(sf: u8, low: bool, symbols: &[u16], out: &mut [u8]) -> Received
                 counting::frame_of(s),
                 &grid,
                 opened.repairs,
+                flips,
                 symbols,
                 h.length,
                 out,
+                hurts,
             )
         }
     }
 }
 
-// Reads a frame's payload into the lent buffer.
-pub fn read(sf: u8, low: bool, symbols: &[u16], out: &mut [u8]) -> Received
-    ensures { λ r. ⌜ Reading sf low (now (symbols .entry)) (now (out .entry)) (now (out .exit)) r ⌝ }
+// Reads a frame's payload into the lent buffer, and into the lent list how many bits were repaired in each of its symbols.
+pub fn read(sf: u8, low: bool, symbols: &[u16], out: &mut [u8], hurts: &mut [u8]) -> Received
+    ensures { λ r. ⌜ Reading sf low (now (symbols .entry)) (now (out .entry)) (now (out .exit)) (now (hurts .entry)) (now (hurts .exit)) r ⌝ }
 {
     let entry = opening::enter(sf, symbols);
     match entry {
         Entry::Refused { number, place } => Received::Refused { number, place },
-        Entry::Passed => read_on(sf, low, symbols, out),
+        Entry::Passed => read_on(sf, low, symbols, out, hurts),
     }
 }

@@ -42,11 +42,11 @@ module _ (F : Frame) (symbols : List ℕ) (n : ℕ) {m end r : ℕ} {B : Block} 
       let (codeword, rate, first, header, high) = zero-fits F v is in
       let all : F .header + end ≡ F .header + m = omega (arith, walk-range w) in
       let at : B .symbol ≡ 0 = rw is in
-      let begun : Marked F symbols (B .codeword) (B .symbol) old′ = rw (codeword, at) (marked-none F symbols old′) in
+      let begun : Marked F symbols (B .codeword) (B .symbol) old′ = rw (codeword, at) (marked-none F symbols old′ long) in
       let columns : B .symbol + (B .rate + 4) ≡ 8 = omega (arith, at, rate) in
       let done : B .codeword + (F .header + m) ≡ F .header + m = omega (arith, codeword) in
       rw (columns, done) at
-      (marked-more F v symbols 0 is (rw is grid) (omega arith) (rw all at count) (omega (arith, rate)) (omega (arith, at, long)) write begun)
+      (marked-more F v symbols 0 is (rw is grid) (omega arith) (rw all at count) (omega (arith, rate)) (omega (arith, at)) write begun)
 
   -- one of them can't be read, or the data end there
   pub data-stop : end < B .rows - F .header → Walk (dataFound F symbols) n (F .header) old mid end r

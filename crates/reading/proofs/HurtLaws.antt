@@ -104,7 +104,7 @@ module _ (F : Frame) (v : Valid F) (symbols : List ℕ) where
 
     -- the marks of the codewords before the block, and the block's own counts behind them
     module _ {m : ℕ} {counts old new : List ℕ} (few : m ≤ B .rows) (count : counts ≡ flips (readRow (B .rate) g) m) (rate : B .rate ≤ 4)
-        (room : B .symbol + 8 ≤ length old) (write : new ≡ overAt (B .symbol) 8 (listed counts) old) (marks : Marked F symbols (B .codeword) (B .symbol) old) where
+        (room : B .symbol + 8 ≤ 832) (write : new ≡ overAt (B .symbol) 8 (listed counts) old) (marks : Marked F symbols (B .codeword) (B .symbol) old) where
       hurt-sum : (t : ℕ) → hurtAt F symbols (B .codeword + m) t ≡ hurtAt F symbols (B .codeword) t + howMany (λ i. repairedIn F symbols t (B .codeword + i)) m
       unfolding hurtAt
       hurt-sum t = howMany-add (repairedIn F symbols t) (B .codeword) m
@@ -112,21 +112,25 @@ module _ (F : Frame) (v : Valid F) (symbols : List ℕ) where
       cell-before : (t : ℕ) → t < B .symbol → getD new t 0 ≡ hurtAt F symbols (B .codeword + m) t
       cell-before t h =
           let kept : getD new t 0 ≡ hurtAt F symbols (B .codeword) t
-          = ap (λ (l : List ℕ). getD l t 0) write ∙ getD-overAt-before (B .symbol) 8 _ old 0 (omega arith) t h ∙ marks .cells t h in
+          = ap (λ (l : List ℕ). getD l t 0) write ∙ getD-overAt-before (B .symbol) 8 _ old 0 (omega (arith, marks .long)) t h ∙ marks .cells t h in
           omega (arith, kept, hurt-sum t, howMany-none (λ i. repairedIn F symbols t (B .codeword + i)) m (λ i l. none-before t i h (omega arith)))
 
       cell-here : (j : ℕ) → j < 8 → getD new (B .symbol + j) 0 ≡ hurtAt F symbols (B .codeword + m) (B .symbol + j)
       unfolding hurtAt listed flips
       cell-here j h =
           let own : getD new (B .symbol + j) 0 ≡ howMany (λ i. eqb (flippedBit (readRow (B .rate) g i)) j) m
-          = ap (λ (l : List ℕ). getD l (B .symbol + j) 0) write ∙ getD-overAt (B .symbol) 8 _ old 0 (omega arith) j h
+          = ap (λ (l : List ℕ). getD l (B .symbol + j) 0) write ∙ getD-overAt (B .symbol) 8 _ old 0 (omega (arith, marks .long)) j h
           ∙ ap (λ (l : List ℕ). getD l j 0) count ∙ getD-tallied 9 (λ i. flippedBit (readRow (B .rate) g i)) m j (omega arith) in
           let same = howMany-cong (λ i. repairedIn F symbols (B .symbol + j) (B .codeword + i)) _ m (λ i l. in-block i j (omega arith) h) in
           let none = howMany-none (repairedIn F symbols (B .symbol + j)) (B .codeword) (λ i l. none-behind (B .symbol + j) i (omega arith) l) in
           own ∙ omega (arith, same, none, hurt-sum (B .symbol + j))
 
       pub marked-more : Marked F symbols (B .codeword + m) (B .symbol + (B .rate + 4)) new
-      marked-more = record { cells = λ t h. at t h (ltb t (B .symbol)) refl }
+      marked-more =
+          record {
+            long = ap length write ∙ length-overAt (B .symbol) 8 (listed counts) old (omega (arith, marks .long)) ∙ marks .long;
+            cells = λ t h. at t h (ltb t (B .symbol)) refl;
+          }
         where
           at : (t : ℕ) → t < B .symbol + (B .rate + 4) → (l : Bool) → ltb t (B .symbol) ≡ l → getD new t 0 ≡ hurtAt F symbols (B .codeword + m) t
           at t h true e = cell-before t (ltb-true t (B .symbol) e)
@@ -137,9 +141,5 @@ module _ (F : Frame) (v : Valid F) (symbols : List ℕ) where
               rw w at (cell-here j (omega arith))
 
 -- before block 0 there is nothing to mark
-pub marked-none : (F : Frame) (symbols hurts : List ℕ) → Marked F symbols 0 0 hurts
-marked-none F symbols hurts = record { cells = λ t h. absurd (omega arith) }
-
--- marking keeps the list's length
-pub mark-length : (at : ℕ) (old counts : List ℕ) {new : List ℕ} → at + 8 ≤ 832 → length old ≡ 832 → new ≡ overAt at 8 (listed counts) old → length new ≡ 832
-mark-length at old counts room long write = ap length write ∙ length-overAt at 8 (listed counts) old (omega arith) ∙ long
+pub marked-none : (F : Frame) (symbols hurts : List ℕ) → length hurts ≡ 832 → Marked F symbols 0 0 hurts
+marked-none F symbols hurts long = record { long = long; cells = λ t h. absurd (omega arith) }

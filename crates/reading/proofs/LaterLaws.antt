@@ -14,7 +14,7 @@ use Rattle.layout.specs.Ranges.{Valid, Fits}
 use Rattle.layout.proofs.LayoutLaws.{product-le, block-later, block-fits, later-le, codeword-next, symbol-next, codeword-end, codeword-within, symbol-end, symbols-below}
 use Rattle.reading.specs.Found.{foundAt}
 use Rattle.reading.specs.Stages.{gridOfSymbols, readRow, rowsFrom, laterFound, Walk, listed, flips, Marked}
-use Rattle.reading.proofs.HurtLaws.{marked-more, mark-length}
+use Rattle.reading.proofs.HurtLaws.{marked-more}
 use Rattle.reading.proofs.ReadLoop.{walk-none, walk-range, walk-le, walk-length, walk-long, walk-on}
 use Rattle.reading.proofs.RowLaws.{row-found}
 
@@ -56,7 +56,6 @@ before F n b = min (blockOf F b .codeword) n - rowsOfFirst (F .sf)
 pub record Sofar (F : Frame) (symbols : List ℕ) (n b : ℕ) (old new : List ℕ) (repairs : ℕ) (hurts : List ℕ) : Type 0 where
   pub walk : Walk (laterFound F symbols) (before F n b) (rowsOfFirst (F .sf)) old new (before F n b) repairs
   pub marks : Marked F symbols (min (blockOf F b .codeword) n) (blockOf F b .symbol) hurts
-  pub cells : length hurts ≡ 832
 
 -- there are no more repairs than codewords, and the list keeps its length
 pub sofar-le : {F : Frame} {symbols : List ℕ} {n b repairs : ℕ} {old new hurts : List ℕ} → Sofar F symbols n b old new repairs hurts → repairs ≤ n
@@ -70,13 +69,13 @@ sofar-length p l room = walk-length (p .walk) (omega arith)
 
 -- before block 1 there are none, and block 0 is marked
 pub sofar-none : (F : Frame) (symbols : List ℕ) (n : ℕ) (old : List ℕ) {hurts : List ℕ} → rowsOfFirst (F .sf) ≤ n → Marked F symbols (rowsOfFirst (F .sf)) 8 hurts
-    → length hurts ≡ 832 → Sofar F symbols n 1 old old 0 hurts
+    → Sofar F symbols n 1 old old 0 hurts
 unfolding before blockOf
-sofar-none F symbols n old many marks long =
+sofar-none F symbols n old many marks =
     let z : min (blockOf F 1 .codeword) n - rowsOfFirst (F .sf) ≡ 0 = omega arith in
     let first : min (blockOf F 1 .codeword) n ≡ rowsOfFirst (F .sf) = omega arith in
     let eight : blockOf F 1 .symbol ≡ 8 = omega arith in
-    record { walk = rw z (walk-none (laterFound F symbols) (rowsOfFirst (F .sf)) old); marks = rw (first, eight) marks; cells = long }
+    record { walk = rw z (walk-none (laterFound F symbols) (rowsOfFirst (F .sf)) old); marks = rw (first, eight) marks }
 
 -- behind the last block there are no others
 module _ {F : Frame} {symbols : List ℕ} {n b repairs : ℕ} {old new hurts : List ℕ} (p : Sofar F symbols n b old new repairs hurts) (v : Valid F)
@@ -113,7 +112,7 @@ module _ {F : Frame} {symbols : List ℕ} {n b m end r s : ℕ} {B : Block} {g :
         let all : 0 + end ≡ m = omega (arith, walk-range w) in
         let here : min (blockOf F b .codeword) n ≡ B .codeword = rw (← q .is) (omega (arith, q .below)) in
         let first : blockOf F b .symbol ≡ B .symbol = rw (← q .is) in
-        marked-more F (q .valid) symbols b (q .is) grid (omega arith) (rw all at count) (q .fits .rate-high) (omega (arith, q .room, p .cells)) write (rw (here, first) at (p .marks))
+        marked-more F (q .valid) symbols b (q .is) grid (omega arith) (rw all at count) (q .fits .rate-high) (q .room) write (rw (here, first) at (p .marks))
 
     pub sofar-more : m ≤ end → Sofar F symbols n (b + 1) old new (r + s) hurts′
     unfolding before
@@ -123,11 +122,7 @@ module _ {F : Frame} {symbols : List ℕ} {n b m end r s : ℕ} {B : Block} {g :
         let read : min (blockOf F (b + 1) .codeword) n ≡ B .codeword + m = omega (arith, next, q .behind, q .below) in
         let onward : blockOf F (b + 1) .symbol ≡ B .symbol + (B .rate + 4) = rw (q .is) (symbol-next F b) in
         let all : end ≡ m = omega (arith, walk-range w) in
-        record {
-          walk = rw done (rw all at block-on);
-          marks = rw (read, onward) (block-marked l);
-          cells = mark-length (B .symbol) hurts counts (q .room) (p .cells) write;
-        }
+        record { walk = rw done (rw all at block-on); marks = rw (read, onward) (block-marked l) }
 
   -- one of its rows can't be read
   pub sofar-stop : {start : ℕ} → start ≡ rowsOfFirst (F .sf) → end < m

@@ -4,7 +4,7 @@ use mathlib.Core.Bool.{Bool}
 use mathlib.Core.List.{List}
 use mathlib.Core.Path.{_≡_}
 use Prim.Native.Nat.{ℕ, _+_, _<_}
-use lib.ListN.{getD}
+use lib.ListN.{length, getD}
 use Rattle.bits.specs.Search.{first, howMany}
 use Rattle.bits.specs.Tab.{over, overAt, blank}
 use Rattle.bits.specs.Tally.{tallied}
@@ -54,6 +54,7 @@ listed l i = getD l i 0
 unfoldable pub flips : (ℕ → Found) → ℕ → List ℕ
 flips found n = tallied 9 (λ i. flippedBit (found i)) n
 
--- each cell below the end tells how many of the first n codewords are repaired in its symbol
+-- of 832 cells each below the end tells how many of the first n codewords are repaired in its symbol
 pub record Marked (F : Frame) (symbols : List ℕ) (n end : ℕ) (hurts : List ℕ) : Type 0 where
+  pub long : length hurts ≡ 832
   pub cells : (t : ℕ) → t < end → getD hurts t 0 ≡ hurtAt F symbols n t

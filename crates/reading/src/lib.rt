@@ -117,7 +117,7 @@ fn read_later(
     nibbles: &mut [u8; NIBBLES],
     hurts: &mut [u8; MOST_SYMBOLS],
 ) -> Progress
-    requires { ⌜ (now readings ≡ readingTable) × Valid f × (rowsOfFirst (f .sf) ≤ n) × (n ≤ 519) × (symbolCount f n ≤ length (now symbols)) × (length (now nibbles) ≡ 519) × (length (now hurts) ≡ 832) × Marked f (now symbols) (rowsOfFirst (f .sf)) 8 (now hurts) ⌝ }
+    requires { ⌜ (now readings ≡ readingTable) × Valid f × (rowsOfFirst (f .sf) ≤ n) × (n ≤ 519) × (symbolCount f n ≤ length (now symbols)) × (length (now nibbles) ≡ 519) × Marked f (now symbols) (rowsOfFirst (f .sf)) 8 (now hurts) ⌝ }
     ensures { λ r. ⌜ Walk (laterFound f (now (symbols .entry))) (remaining f n) (rowsOfFirst (f .sf)) (now (nibbles .entry)) (now (nibbles .exit)) (r .end) (r .repairs) × (remaining f n ≤ r .end → Marked f (now (symbols .entry)) n (symbolCount f n) (now (hurts .exit))) ⌝ }
 {
     let start = layout::first_block(f.sf).rows;
@@ -165,7 +165,16 @@ pub fn read_data(
     let inside = b.rows - header;
     let rows = least(inside, n);
     let mut counts = before;
-    let p = read_rows(readings, b.rate, first, header, rows, header, nibbles, &mut counts);
+    let p = read_rows(
+        readings,
+        b.rate,
+        first,
+        header,
+        rows,
+        header,
+        nibbles,
+        &mut counts,
+    );
     mark(&counts, b.symbol, hurts);
     if p.end < inside {
         return p;

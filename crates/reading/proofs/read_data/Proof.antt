@@ -5,7 +5,6 @@ use native.Mathlib.Omega.{arith}
 use lib.ListN.{length}
 use Rattle.layout.specs.Layout.{rowsOfFirst, firstBlock, remaining}
 use Rattle.reading.proofs.DataLaws.{zero-fits, first-marked, data-stop, data-marked, data-on}
-use Rattle.reading.proofs.HurtLaws.{mark-length}
 use Rattle.reading.proofs.ReadLoop.{walk-range, walk-le, walk-length}
 use borrow.Author.Needs.{needs}
 use Rattle.reading.proofs.read_data.Statement.{statement}
@@ -89,7 +88,6 @@ read-later-requires c κs = let e = c .before .before in
       p .4,
       p .5,
       walk-length (w .read-rows .ensures .0) (omega (arith, least, room (begin z))) ∙ p .6,
-      mark-length _ _ _ (mark-room (m .before .before .before)) (p .7) (m .mark .ensures),
       rw all at (first-marked _ _ _ (p .1) (z .first-block .ensures) (p .2) (w .read-rows .ensures .0) least _ (omega (arith, least, e .if1 .left)) (w .read-rows .ensures .1) (p .7) (m .mark .ensures)),
     )
 

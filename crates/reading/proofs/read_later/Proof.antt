@@ -71,7 +71,7 @@ add-blocks : tie.Need-add-blocks Inv-loop μ-loop
 add-blocks c = omega (arith, few c)
 
 loop-holds : tie.Need-loop-holds Inv-loop μ-loop
-loop-holds c = let p = c .before .before .before .pre in (search needs, search needs, sofar-none _ _ _ _ (p .2) (p .7) (p .6))
+loop-holds c = let p = c .before .before .before .pre in (search needs, search needs, sofar-none _ _ _ _ (p .2) (p .6))
 
 block-at-requires : tie.Need-block-at-requires Inv-loop μ-loop
 block-at-requires c κs = (search needs, omega (arith, few (c .before .before), c .loop-test .taken))
@@ -101,7 +101,7 @@ read-rows-requires c κs =
     )
 
 mark-requires : tie.Need-mark-requires Inv-loop μ-loop
-mark-requires c κs = let d = turn (c .before .before) in (next d .room, d .before .before .loop .inv .2 .cells)
+mark-requires c κs = let d = turn (c .before .before) in (next d .room, d .before .before .loop .inv .2 .marks .long)
 
 add-repairs : tie.Need-add-repairs Inv-loop μ-loop
 add-repairs c = let w = rows (c .before) in

@@ -2,6 +2,10 @@
 use mathlib.Core.Path.{_≡_, sym, ap, _∙_}
 use Prim.Native.Nat.{ℕ}
 use native.Mathlib.Omega.{arith}
+use Rattle.bits.specs.Tab.{blank}
+use Rattle.reading.specs.Stages.{flips}
+use Rattle.reading.proofs.HurtLaws.{flips-none}
+use Rattle.reading.proofs.ReadLoop.{walk-range}
 use Rattle.lora.specs.Head.{said}
 use Rattle.lora.proofs.HeadLaws.{header-refused, header-said, header-repairs}
 use borrow.Author.Needs.{needs}
@@ -9,17 +13,16 @@ use Rattle.lora.proofs.opening.header_of.Statement.{statement}
 use Rattle.lora.proofs.opening.header_of.Tie as tie
 
 read-rows-requires : tie.Need-read-rows-requires
-read-rows-requires c κs = search needs
+unfolding blank
+read-rows-requires c κs = (search needs, search needs, search needs, search needs, search needs, flips-none _)
 
 returns : tie.Need-returns
 returns c =
     record {
-      says = sym (header-refused _ (c .before .read-rows .ensures) (c .if1 .taken));
-      counts = λ h e. absurd (let z : _≡_ {A = ℕ} 0 1 = cc in omega arith);
+      says = sym (header-refused _ (c .before .read-rows .ensures .0) (c .if1 .taken));
+      repaired = λ h e. absurd (let z : _≡_ {A = ℕ} 0 1 = cc in omega arith);
+      flipped = λ h e. absurd (let z : _≡_ {A = ℕ} 0 1 = cc in omega arith);
     }
-
-array-read-t12 : tie.Need-array-read-t12
-array-read-t12 c = search needs
 
 array-read-t15 : tie.Need-array-read-t15
 array-read-t15 c = search needs
@@ -33,6 +36,9 @@ array-read-t21 c = search needs
 array-read-t24 : tie.Need-array-read-t24
 array-read-t24 c = search needs
 
+array-read-t27 : tie.Need-array-read-t27
+array-read-t27 c = search needs
+
 judge-requires : tie.Need-judge-requires
 judge-requires c κs = search needs
 
@@ -41,11 +47,12 @@ said-requires c κs = search needs
 
 returns-2 : tie.Need-returns-2
 returns-2 c =
-    let w = c .before .before .before .read-rows .ensures in
+    let r = c .before .before .before .read-rows .ensures in
     let all = c .before .before .if1 .left in
     record {
-      says = c .said .ensures ∙ ap said (c .before .judge .ensures) ∙ sym (header-said _ w all);
-      counts = λ h e. header-repairs _ w all;
+      says = c .said .ensures ∙ ap said (c .before .judge .ensures) ∙ sym (header-said _ (r .0) all);
+      repaired = λ h e. header-repairs _ (r .0) all;
+      flipped = λ h e. r .1 ∙ ap (flips _) (omega (arith, all, walk-range (r .0)));
     }
 
 pub header-of-spec : {M : Type 1} → statement M
@@ -54,11 +61,11 @@ header-of-spec =
     (tie.spec
     read-rows-requires
     returns
-    array-read-t12
     array-read-t15
     array-read-t18
     array-read-t21
     array-read-t24
+    array-read-t27
     judge-requires
     said-requires
     returns-2)

@@ -1,7 +1,8 @@
--- The first len cells, one after the other.
+-- The cells, one after the other.
 use native.Mathlib.Omega.{arith}
 use Prim.Native.Nat.{_≤_, _-_}
 use mathlib.Core.Path.{refl}
+use lib.ListN.{length}
 use Rattle.bits.proofs.Fill.{Filled, filled-none, filled-more, filled-end}
 use Rattle.reading.specs.Stages.{listed}
 use borrow.Author.Needs.{needs}
@@ -9,16 +10,16 @@ use Rattle.lora.proofs.receiving.copy.Statement.{statement}
 use Rattle.lora.proofs.receiving.copy.Tie as tie
 
 abbrev Inv-loop : tie.InvT-loop
-Inv-loop len out₀ payload i₀ out i = (i ≤ len) × Filled (listed payload) out₀ i out
+Inv-loop cells out₀ i₀ end out i = (i ≤ length cells) × Filled (listed cells) out₀ i out
 
 abbrev μ-loop : tie.MeasureT-loop
-μ-loop len out₀ payload i₀ out i = len - i
+μ-loop cells out₀ i₀ end out i = length cells - i
 
 loop-holds : tie.Need-loop-holds Inv-loop μ-loop
 loop-holds c = (search needs, filled-none _ _)
 
-array-read-out : tie.Need-array-read-out Inv-loop μ-loop
-array-read-out c = search needs
+shared-slice-read-out : tie.Need-shared-slice-read-out Inv-loop μ-loop
+shared-slice-read-out c = search needs
 
 slice-write-out : tie.Need-slice-write-out Inv-loop μ-loop
 slice-write-out c = search needs
@@ -31,7 +32,7 @@ loop-less c = search needs
 
 loop-again : tie.Need-loop-again Inv-loop μ-loop
 unfolding listed
-loop-again c = (search needs, filled-more (c .before .loop .inv .1) (search needs) refl)
+loop-again c = (search needs, filled-more (c .before .before .loop .inv .1) (search needs) refl)
 
 same-length : tie.Need-same-length Inv-loop μ-loop
 same-length c = search needs
@@ -46,7 +47,7 @@ copy-spec =
     Inv-loop
     μ-loop
     loop-holds
-    array-read-out
+    shared-slice-read-out
     slice-write-out
     add-i
     loop-less

@@ -12,6 +12,7 @@ use Rattle.bits.specs.Tab.{blank}
 use Rattle.drift.specs.Drift.{driftOf}
 use Rattle.layout.specs.Layout.{nibblesOf, symbolsOf}
 use Rattle.layout.proofs.LayoutLaws.{data-le, nibbles-le, symbols-ge}
+use Rattle.reading.specs.Stages.{Marked}
 use Rattle.lora.proofs.ReadLaws.{Run, data-is, whole-is, run-le, run-few, run-small, run-payload, says-unreadable, says-twelve, says-payload}
 use borrow.Author.Needs.{needs, sfits-of}
 use Rattle.lora.proofs.receiving.decode.Statement.{statement}
@@ -19,21 +20,21 @@ use Rattle.lora.proofs.receiving.decode.Tie as tie
 
 -- the count of nibbles, and how the function was called, from behind the run
 abbrev counted : tie.After-read-data → tie.After-nibbles-of
-counted c = c .before .before
+counted c = c .before .before .before
 
 abbrev start : tie.After-read-data → tie.Start
 start c = counted c .before .before
 
 -- what the run over the data codewords gives
 run : (c : tie.After-read-data) → let a = start c .args in
-    Run (a .f) (now (a .symbols)) (a .len) (a .repairs) (c .read-data .last .1 .1 .1 .1 .1 .0) (c .read-data .result .end) (c .read-data .result .repairs)
+    Run (a .f) (now (a .symbols)) (a .len) (a .repairs) (c .read-data .last .1 .1 .1 .1 .1 .1 .0) (c .read-data .result .end) (c .read-data .result .repairs)
 unfolding blank
 run c =
     let s = start c in
     record {
       valid = s .pre .1 .headed .valid;
-      header = s .pre .1 .headed .counts;
-      walk = rw (data-is (s .args .f) (s .args .len) (counted c .nibbles-of .ensures)) at (c .read-data .ensures);
+      header = s .pre .1 .headed .repaired;
+      walk = rw (data-is (s .args .f) (s .args .len) (counted c .nibbles-of .ensures)) at (c .read-data .ensures .0);
     }
 
 -- it reads at most 514 codewords
@@ -46,6 +47,16 @@ few c =
 whole : (c : tie.Else1) → let a = start (c .before .before) .args in nibblesOf (a .f) (a .len) ≤ a .f .header + c .before .before .read-data .result .end
 whole c = omega (arith, c .if1 .left, counted (c .before .before) .nibbles-of .ensures)
 
+-- and then the frame's symbols are marked
+marked : (c : tie.Else1) → let r = c .before .before in let a = start r .args in
+    Marked (a .f) (now (a .symbols)) (nibblesOf (a .f) (a .len)) (symbolsOf (a .f) (a .len)) (r .read-data .last .1 .1 .1 .1 .1 .1 .1 .0)
+unfolding symbolsOf
+marked c =
+    let r = c .before .before in
+    let s = start r in
+    let e = whole-is (s .args .f) (s .args .len) (counted r .nibbles-of .ensures) in
+    rw e at (r .read-data .ensures .1 (omega (arith, c .if1 .left)))
+
 nibbles-of-requires : tie.Need-nibbles-of-requires
 nibbles-of-requires c κs = search needs
 
@@ -56,16 +67,18 @@ sub-read-data c = omega (arith, c .nibbles-of .ensures)
 read-data-requires : tie.Need-read-data-requires
 unfolding symbolsOf
 read-data-requires c κs =
-    let r = c .before in
+    let r = c .before .before in
     let s = r .before .before in
     let v = s .pre .1 .headed .valid in
     let e = whole-is (s .args .f) (s .args .len) (r .nibbles-of .ensures) in (
       s .pre .0,
       v,
       s .pre .1 .headed .first,
+      s .pre .1 .headed .flipped,
       rw e (nibbles-le (s .args .f) (s .args .len) v (s .pre .1 .headed .short)),
       rw e (omega (arith, s .pre .1 .whole, s .pre .1 .there)),
       refl,
+      s .pre .2,
     )
 
 add-end : tie.Need-add-end
@@ -100,8 +113,8 @@ returns-2 c =
       held = search needs;
     }
 
-add-t15 : tie.Need-add-t15
-add-t15 c =
+add-t17 : tie.Need-add-t17
+add-t17 c =
     let p = c .before .before .before .before in
     let r = p .before .before .before .before in
     omega (arith, run-few (run r), few r, start r .pre .1 .headed .valid .header-high)
@@ -130,7 +143,7 @@ returns-3 c =
     let w = run (e .before .before) in
     record {
       says = rw (start (e .before .before) .pre .1 .whole) (says-payload w _ (blank 255 0) (first-drift c) (whole e) (p .payload-of-nibbles .ensures) (sym (c .before .before .before .before .sum-holds .ensures) ∙ not-false _ (c .before .before .before .if2 .left)));
-      held = p .payload-of-nibbles .ensures ∙ run-payload w (whole e) (blank 255 0);
+      held = (p .payload-of-nibbles .ensures ∙ run-payload w (whole e) (blank 255 0), marked e);
     }
 
 pub decode-spec : {M : Type 1} → statement M
@@ -145,7 +158,7 @@ decode-spec =
     payload-of-nibbles-requires
     sum-holds-requires
     returns-2
-    add-t15
+    add-t17
     shared-slice-read-drift-of-number
     drift-of-number-requires
     returns-3)

@@ -15,14 +15,17 @@ enum-told : tie.Need-enum-told
 enum-told c = search needs
 
 read-on-requires : tie.Need-read-on-requires
-read-on-requires c κs = rw (c .before .enum-told .given .1) at (c .before .before .before .enter .ensures)
+read-on-requires c κs = rw (c .before .before .enum-told .given .1) at (c .before .before .before .before .enter .ensures)
 
 returns : tie.Need-returns
 unfolding readOf
-returns c = record { answer = rw (rw (c .before .entry .given .1) at (c .before .before .before .enter .ensures)); cells = refl }
+returns c = record { answer = rw (rw (c .before .entry .given .1) at (c .before .before .before .enter .ensures)); cells = refl; marks = refl }
 
 same-length : tie.Need-same-length
 same-length c = search needs
+
+same-length-2 : tie.Need-same-length-2
+same-length-2 c = search needs
 
 returns-2 : tie.Need-returns-2
 returns-2 c = search needs
@@ -37,4 +40,5 @@ read-spec =
     read-on-requires
     returns
     same-length
+    same-length-2
     returns-2)

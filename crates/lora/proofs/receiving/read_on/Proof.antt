@@ -3,7 +3,7 @@ use mathlib.Core.Path.{_≡_, refl, sym, _∙_}
 use denote.Ref.{now}
 use Rattle.lora.specs.Head.{headOf}
 use Rattle.lora.specs.Read.{readOf}
-use Rattle.lora.proofs.AnswerLaws.{bytes-said}
+use Rattle.lora.proofs.AnswerLaws.{bytes-said, hurts-said}
 use Rattle.lora.proofs.HeadLaws.{head-sound, header-same, grid-found, grid-repairs}
 use Rattle.lora.proofs.ReadLaws.{headed}
 use borrow.Author.Needs.{needs}
@@ -15,7 +15,7 @@ abbrev gridded : tie.After-header-of → tie.After-first-grid
 gridded c = c .before .before .before .before
 
 abbrev start : tie.After-header-of → tie.Start
-start c = gridded c .before .before .before
+start c = gridded c .before .before .before .before
 
 -- what is read in block 0 is what head says
 head-is : (c : tie.After-header-of) → let a = start c .args in c .header-of .result .heading ≡ headOf (a .sf) (now (a .symbols))
@@ -43,34 +43,40 @@ frame-of-requires c κs = search needs
 
 read-body-requires : tie.Need-read-body-requires
 read-body-requires c κs =
-    let g = c .before .before .before .before .before in
-    let h = g .before .before in
+    let f = c .before .before .before in
+    let g = f .before .before .before in
+    let h = g .before .before .before in
     let s = start h in
     let grid = gridded h .first-grid .ensures in
     let says = g .heading2 .given .1 in
-    let low = s .pre .0 in (
+    let low = s .pre .0 in
+    let opened = h .header-of .ensures in (
       h .before .before .before .readings .ensures,
-      rw (c .before .before .frame-of .ensures)
-          (headed (s .args .sf) (s .args .low) _ _ (head-sound _ _ _ (sym (head-is h) ∙ says)) grid (h .header-of .ensures .counts _ says ∙ grid-repairs _ _ low grid)),
+      rw (f .frame-of .ensures)
+          (headed (s .args .sf) (s .args .low) _ _ (head-sound _ _ _ (sym (head-is h) ∙ says)) grid (opened .repaired _ says ∙ grid-repairs _ _ low grid) (opened .flipped _ says)),
     )
 
 returns : tie.Need-returns
 unfolding readOf
-returns c = record { answer = rw (sym (head-is (c .before .before .before)) ∙ c .before .heading .given .1); cells = refl }
+returns c = record { answer = rw (sym (head-is (c .before .before .before .before)) ∙ c .before .heading .given .1); cells = refl; marks = refl }
 
 same-length : tie.Need-same-length
 same-length c = search needs
 
+same-length-2 : tie.Need-same-length-2
+same-length-2 c = search needs
+
 returns-2 : tie.Need-returns-2
 unfolding readOf
 returns-2 c =
-    let f = c .before .before .before .before .before in
+    let f = c .before .before .before .before .before .before .before .before in
     let g = f .before .before .before in
-    let h = g .before .before in
-    let b = rw (f .frame-of .ensures) at (c .before .before .read-body .ensures) in
+    let h = g .before .before .before in
+    let b = rw (f .frame-of .ensures) at (c .before .before .before .before .read-body .ensures) in
     record {
       answer = b .answer ∙ rw (sym (head-is h) ∙ g .heading2 .given .1);
-      cells = b .cells ∙ bytes-said _ _ _ _ _ _ _ _ _ (b .answer);
+      cells = b .cells ∙ bytes-said _ _ _ _ _ _ _ _ _ _ (b .answer);
+      marks = b .marks ∙ hurts-said _ _ _ _ _ _ _ _ _ _ (b .answer);
     }
 
 pub read-on-spec : {M : Type 1} → statement M
@@ -86,4 +92,5 @@ read-on-spec =
     read-body-requires
     returns
     same-length
+    same-length-2
     returns-2)
