@@ -48,22 +48,24 @@ module _ (F : Frame) (symbols : List ℕ) (len : ℕ) (v : Valid F) (short : len
   unfolding overInRest firstOver
   rest-le = omega (arith, first-range (isOver (F .sf) symbols) (symbolsOf F len - 8) 8, symbols-le F len v short)
 
+  total-le : symbolsOf F len ≤ 65535
+  total-le = omega (arith, symbols-le F len v short)
+
   fits : Fits (acceptedOf F symbols len)
   unfolding acceptedOf repairsOf
   fits = record { short = short; few = omega (arith, howMany-le (repairedAt (foundAt F symbols)) (nibblesOf F len), nibbles-le F len v short) }
 
-  body-fits : (room : ℕ) → Read (bodyOf F symbols room len)
-  body-fits room =
-      body-cases F symbols room len Read (omega arith) (omega (arith, symbols-le F len v short)) rest-le
-      (λ l. omega (arith, nibbles-le F len v short)) (omega arith) (λ room. fits)
+  body-fits : (room marks : ℕ) → Read (bodyOf F symbols room marks len)
+  body-fits room marks =
+      body-cases F symbols room marks len Read (omega arith) total-le total-le rest-le (λ l. omega (arith, nibbles-le F len v short)) (omega arith) (λ room lists. fits)
 
-pub read-fits : (sf : ℕ) (low : Bool) (symbols : List ℕ) (room : ℕ) → Read (readOf sf low symbols room)
+pub read-fits : (sf : ℕ) (low : Bool) (symbols : List ℕ) (room marks : ℕ) → Read (readOf sf low symbols room marks)
 unfolding readOf
-read-fits sf low symbols room = by (headOf sf symbols) refl (head-placed sf symbols)
+read-fits sf low symbols room marks = by (headOf sf symbols) refl (head-placed sf symbols)
   where
-    by : (h : Heading) → headOf sf symbols ≡ h → Placed h → Read (onward h sf low symbols room)
+    by : (h : Heading) → headOf sf symbols ≡ h → Placed h → Read (onward h sf low symbols room marks)
     by (HeadRefused number place) e p = p
     by (Says h) e p =
         let k = head-sound sf symbols h e in
         body-fits (frameSaid sf low (h .cr) (h .checked)) symbols (h .length)
-        (record { sf-low = k .sf-low; sf-high = k .sf-high; cr-low = k .cr-low; cr-high = k .cr-high; header-high = omega arith }) (k .short) room
+        (record { sf-low = k .sf-low; sf-high = k .sf-high; cr-low = k .cr-low; cr-high = k .cr-high; header-high = omega arith }) (k .short) room marks

@@ -5,6 +5,7 @@ ghost use lib.ListN.{length};
 ghost use Rattle.text.specs.Scan.{Sane};
 ghost use Rattle.keep.specs.Heard.{Read, Sound};
 use bits::wide;
+use layout::MOST_SYMBOLS;
 use lora::Accepted;
 use lora::Received;
 use text::Scan;
@@ -50,12 +51,13 @@ fn sort(sf: u8, low: bool, received: Received) -> Heard
     }
 }
 
-// Reads a frame; its payload goes to the lent cells.
+// Reads a frame; its payload goes to the lent cells. The file has no place for the symbols that were hurt.
 fn hear_frame(sf: u8, low: bool, symbols: &[u16], payload: &mut [u8]) -> Heard
     requires { ⌜ length (now payload) ≡ 255 ⌝ }
     ensures { λ r. ⌜ Sound r ⌝ }
 {
-    sort(sf, low, lora::read(sf, low, symbols, payload))
+    let mut hurts = [0u8; MOST_SYMBOLS];
+    sort(sf, low, lora::read(sf, low, symbols, payload, &mut hurts))
 }
 
 // Reads the text that was taken and ends here.

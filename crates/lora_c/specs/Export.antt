@@ -10,7 +10,7 @@ use lib.ListN.{length, drop}
 use Rattle.bits.specs.Bit.{asBit}
 use Rattle.bits.specs.Check.{check}
 use Rattle.lora.specs.Code.{symbolsAfter}
-use Rattle.lora.specs.Read.{bytesAfter}
+use Rattle.lora.specs.Read.{bytesAfter, hurtsAfter}
 use Rattle.lora.specs.declared.Settings.{Settings}
 use Rattle.lora.specs.declared.Counted.{Counted}
 use Rattle.lora.specs.declared.Counted.the-variants.{Symbols, Refused as CountRefused}
@@ -97,7 +97,8 @@ pub record CodeExported (a : Counted) (s : Settings) (payload lent out old new :
   pub is : Exported 1 (codeOfCounted a) (cellsOfCounted a) old new r
   pub symbols : Lent 1 old lent (symbolsAfter a s payload lent) out
 
--- read's, with the lent bytes before and after
-pub record ReadExported (a : Received) (sf : ℕ) (low : Bool) (symbols lent out old new : List ℕ) (r : ℕ) : Type 0 where
+-- read's, with the lent bytes and the lent list of hurt symbols before and after
+pub record ReadExported (a : Received) (sf : ℕ) (low : Bool) (symbols lent out hurts hurts′ old new : List ℕ) (r : ℕ) : Type 0 where
   pub is : Exported 6 (codeOfReceived a) (cellsOfReceived a) old new r
   pub bytes : Lent 6 old lent (bytesAfter a sf low symbols lent) out
+  pub marks : Lent 6 old hurts (hurtsAfter a sf low symbols hurts) hurts′

@@ -170,21 +170,23 @@ pub extern "C" fn lora_head(sf: u8, symbols: &[u16], answer: &mut [u64]) -> u8
     }
 }
 
-// Reads a frame's payload into the lent bytes. answer on acceptance: length, CR, checksum flag, symbols used, repairs, drift.
+// Reads a frame's payload into the lent bytes, and into the lent list how many bits were repaired in each of its symbols. answer
+// on acceptance: length, CR, checksum flag, symbols used, repairs, drift.
 #[no_mangle]
 pub extern "C" fn lora_read(
     sf: u8,
     low: u8,
     symbols: &[u16],
     out: &mut [u8],
+    hurts: &mut [u8],
     answer: &mut [u64],
 ) -> u8
-    ensures { λ r. ⌜ ReadExported (readOf sf (flagOf low) (now (symbols .entry)) (length (now (out .entry)))) sf (flagOf low) (now (symbols .entry)) (now (out .entry)) (now (out .exit)) (now (answer .entry)) (now (answer .exit)) r ⌝ }
+    ensures { λ r. ⌜ ReadExported (readOf sf (flagOf low) (now (symbols .entry)) (length (now (out .entry))) (length (now (hurts .entry)))) sf (flagOf low) (now (symbols .entry)) (now (out .entry)) (now (out .exit)) (now (hurts .entry)) (now (hurts .exit)) (now (answer .entry)) (now (answer .exit)) r ⌝ }
 {
     if answer.len() < 6 {
         return ANSWER_SHORT;
     }
-    let received = lora::read(sf, low != 0, symbols, out);
+    let received = lora::read(sf, low != 0, symbols, out, hurts);
     match received {
         Received::Refused { number, place } => {
             put(answer, &[place as u64]);

@@ -71,14 +71,14 @@ abbrev pub payloadIn : Received → List ℕ → List ℕ
 payloadIn (Payload a) cells = take (a .length) cells
 payloadIn (Refused number place) cells = []
 
--- the line for what read answers, into 255 cells
+-- the line for what read answers, into 255 cells and a list of 832
 abbrev pub lineFor : ℕ → Bool → List ℕ → Received → List ℕ
 lineFor sf low symbols r = lineOf r (payloadIn r (bytesAfter r sf low symbols (blank 255 0)))
 
 -- the line that answers a text; any text that can't be taken is refusal 14
 abbrev pub answerTo : Text → List ℕ
 answerTo bad = lineOf (Refused 14 0) []
-answerTo (frame sf low symbols) = lineFor sf low symbols (readOf sf low symbols 255)
+answerTo (frame sf low symbols) = lineFor sf low symbols (readOf sf low symbols 255 832)
 
 unfoldable pub answerOf : List ℕ → List ℕ
 answerOf bytes = answerTo (textOf (wordsFrom [] bytes))
@@ -86,7 +86,7 @@ answerOf bytes = answerTo (textOf (wordsFrom [] bytes))
 -- how a text is answered: accepted with no repairs, with some, or refused
 abbrev pub outcomeTo : Text → Outcome
 outcomeTo bad = outcomeOf (Refused 14 0)
-outcomeTo (frame sf low symbols) = outcomeOf (readOf sf low symbols 255)
+outcomeTo (frame sf low symbols) = outcomeOf (readOf sf low symbols 255 832)
 
 unfoldable pub outcomeIs : List ℕ → Outcome
 outcomeIs bytes = outcomeTo (textOf (wordsFrom [] bytes))

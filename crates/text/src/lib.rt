@@ -10,6 +10,7 @@ ghost use Rattle.text.specs.Answer.{Shown, narrowed};
 ghost use Rattle.text.specs.Scan.{Sane, Holds, step, grown, shut, run, ended, stateOf, refusing, isFrame, lineAt, outcomeAt};
 ghost use Rattle.text.specs.Text.{frame, payloadIn, answerTo, outcomeTo};
 use layout::LONGEST;
+use layout::MOST_SYMBOLS;
 use line::Answer;
 use lora::Received;
 
@@ -179,7 +180,8 @@ fn answer_frame(sf: u16, low: bool, symbols: &[u16], out: &mut [u8]) -> Answer
     ensures { λ r. ⌜ Answered 640 (answerTo (frame sf low (now (symbols .entry)))) (outcomeTo (frame sf low (now (symbols .entry)))) (now (out .entry)) (now (out .exit)) r ⌝ }
 {
     let mut payload = [0u8; LONGEST];
-    let received = lora::read(narrow(sf), low, symbols, &mut payload);
+    let mut hurts = [0u8; MOST_SYMBOLS];
+    let received = lora::read(narrow(sf), low, symbols, &mut payload, &mut hurts);
     answer_with(received, payload, out)
 }
 
