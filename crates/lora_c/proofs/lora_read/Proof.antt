@@ -1,4 +1,4 @@
--- Read's answer as a number and six cells, beside the list of bytes.
+-- Read's answer as a number and six cells, beside the two lent lists.
 use mathlib.Core.Path.{sym, ap, _∙_}
 use mir.Facts.{toZ-ofZ}
 use mir.Syntax.{w8}
@@ -9,7 +9,7 @@ use Rattle.lora_c.proofs.lora_read.Statement.{statement}
 use Rattle.lora_c.proofs.lora_read.Tie as tie
 
 returns : tie.Need-returns
-returns c = record { is = short (search needs); bytes = lent-short (search needs) }
+returns c = record { is = short (search needs); bytes = lent-short (search needs); marks = lent-short (search needs) }
 
 read-requires : tie.Need-read-requires
 read-requires c κs = search needs
@@ -26,8 +26,8 @@ put-requires c κs = search needs
 enum-known-received-2 : tie.Need-enum-known-received-2
 enum-known-received-2 c = search needs
 
-cast-t27 : tie.Need-cast-t27
-cast-t27 c = search needs
+cast-t30 : tie.Need-cast-t30
+cast-t30 c = search needs
 
 flag-requires : tie.Need-flag-requires
 flag-requires c κs = search needs
@@ -47,20 +47,26 @@ same-length c = search needs
 same-length-2 : tie.Need-same-length-2
 same-length-2 c = search needs
 
+same-length-3 : tie.Need-same-length-3
+same-length-3 c = search needs
+
 returns-2 : tie.Need-returns-2
 returns-2 c =
     let p = c .before .before in
     let m = p .before .before .before .before in
-    let k = m .before .before .before .before in
-    let h = k .before .before .if1 .left in
+    let k = m .before .before .before .before .before .before in
+    let h = k .before .before .before .if1 .left in
     rw (sym (k .read .ensures .answer) ∙ m .received .given .1)
-    (record { is = enough h (p .put .ensures); bytes = lent-enough h (rw (m .received .given .1) at (k .read .ensures .cells)) })
-
-same-length-3 : tie.Need-same-length-3
-same-length-3 c = search needs
+    (record { is = enough h (p .put .ensures); bytes = lent-enough h (rw (m .received .given .1) at (k .read .ensures .cells)); marks = lent-enough h (rw (m .received .given .1) at (k .read .ensures .marks)) })
 
 same-length-4 : tie.Need-same-length-4
 same-length-4 c = search needs
+
+same-length-5 : tie.Need-same-length-5
+same-length-5 c = search needs
+
+same-length-6 : tie.Need-same-length-6
+same-length-6 c = search needs
 
 returns-3 : tie.Need-returns-3
 returns-3 c =
@@ -68,13 +74,13 @@ returns-3 c =
     let d = p .before .before in
     let f = d .before .before in
     let m = f .before .before .before .before in
-    let k = m .before .before .before .before in
-    let h = k .before .before .if1 .left in
+    let k = m .before .before .before .before .before .before in
+    let h = k .before .before .before .if1 .left in
     -- the answer's sixth field fits in its 8 bits, as its row tells
     let fits = sfits-of (d .before .struct-told .given .1 .1 .1 .1 .1 .0 .1) in
     let drift = d .signed .ensures ∙ ap cellOf (toZ-ofZ {w = w8} {z = m .received2 .given .0 .0 .drift} fits) in
     rw (sym (k .read .ensures .answer) ∙ m .received2 .given .1)
-    (record { is = enough h (rw (f .flag .ensures, drift) at (p .put2 .ensures)); bytes = lent-enough h (rw (m .received2 .given .1) at (k .read .ensures .cells)) })
+    (record { is = enough h (rw (f .flag .ensures, drift) at (p .put2 .ensures)); bytes = lent-enough h (rw (m .received2 .given .1) at (k .read .ensures .cells)); marks = lent-enough h (rw (m .received2 .given .1) at (k .read .ensures .marks)) })
 
 pub lora-read-spec : {M : Type 1} → statement M
 lora-read-spec =
@@ -86,14 +92,16 @@ lora-read-spec =
     slice-aggregate-put
     put-requires
     enum-known-received-2
-    cast-t27
+    cast-t30
     flag-requires
     signed-requires
     slice-aggregate-put-2
     put-requires-2
     same-length
     same-length-2
-    returns-2
     same-length-3
+    returns-2
     same-length-4
+    same-length-5
+    same-length-6
     returns-3)
