@@ -6,10 +6,9 @@ use mathlib.Core.List.{List}
 use Prim.Native.Nat.{ℕ, _<_, _≤_}
 use native.Mathlib.Omega.{arith}
 use lib.Dec.{leb}
-use lib.ListN.{length, getD}
+use lib.ListN.{length}
 use borrow.Author.Tests.{leb-true, leb-false, lt-leb, le-leb}
 use Rattle.bits.specs.Check.{check}
-use Rattle.drift.specs.Drift.{driftOf}
 use Rattle.layout.specs.Layout.{validSf, nibblesOf, symbolsOf}
 use Rattle.layout.specs.declared.Frame.{Frame}
 use Rattle.lora.specs.Head.{headOf}
@@ -21,12 +20,13 @@ use Rattle.lora.specs.declared.Heading.the-variants.{Says, Refused as He
 use Rattle.lora.specs.declared.Received.{Received}
 use Rattle.lora.specs.declared.Received.the-variants.{Payload, Refused}
 
--- where read accepts, head says the same, the payload has room and so have the marks, and the drift is the first symbol's
-pub record Accepts (sf : ℕ) (symbols : List ℕ) (room marks : ℕ) (a : Accepted) : Type 0 where
+-- where read accepts, head says the same, the payload has room and so have the marks, and what is answered is what the frame's
+-- symbols say
+pub record Accepts (sf : ℕ) (low : Bool) (symbols : List ℕ) (room marks : ℕ) (a : Accepted) : Type 0 where
   pub head : headOf sf symbols ≡ Says (record { length = a .length; cr = a .cr; checked = a .checked })
   pub fits : a .length ≤ room
   pub lists : a .symbols ≤ marks
-  pub drift : a .drift ≡ driftOf sf (getD symbols 0 0)
+  pub is : a ≡ acceptedOf (frameSaid sf low (a .cr) (a .checked)) symbols (a .length)
 
 -- what is answered behind the header, by the checks
 pub body-cases : (F : Frame) (symbols : List ℕ) (room marks len : ℕ) (P : Received → Type 0) → P (Refused 4 len) → P (Refused 4 (symbolsOf F len))
@@ -58,15 +58,15 @@ body-accepts F symbols room marks len a =
     other : {number place : ℕ} → Refused number place ≡ Payload a → (acceptedOf F symbols len ≡ a) × (len ≤ room) × (symbolsOf F len ≤ marks)
     other e = absurd (let z : _≡_ {A = ℕ} 0 1 = cc in omega arith)
 
-pub accepts : (sf : ℕ) (low : Bool) (symbols : List ℕ) (room marks : ℕ) (a : Accepted) → readOf sf low symbols room marks ≡ Payload a → Accepts sf symbols room marks a
+pub accepts : (sf : ℕ) (low : Bool) (symbols : List ℕ) (room marks : ℕ) (a : Accepted) → readOf sf low symbols room marks ≡ Payload a → Accepts sf low symbols room marks a
 unfolding readOf acceptedOf
 accepts sf low symbols room marks a e = one (headOf sf symbols) refl e
   where
-    one : (h : Heading) → headOf sf symbols ≡ h → onward h sf low symbols room marks ≡ Payload a → Accepts sf symbols room marks a
+    one : (h : Heading) → headOf sf symbols ≡ h → onward h sf low symbols room marks ≡ Payload a → Accepts sf low symbols room marks a
     one (HeadRefused n p) f g = absurd (let z : _≡_ {A = ℕ} 0 1 = cc in omega arith)
     one (Says h) f g =
         let (same, fits, lists) = body-accepts (frameSaid sf low (h .cr) (h .checked)) symbols room marks (h .length) a g in
-        rw (← same) (record { head = f; fits = fits; lists = lists; drift = refl })
+        rw (← same) (record { head = f; fits = fits; lists = lists; is = refl })
 
 -- the payload's bytes and the symbols' marks, by what is answered
 module _ (sf : ℕ) (low : Bool) (cr : ℕ) (flag : Bool) (symbols : List ℕ) (room marks len : ℕ) (old : List ℕ) where

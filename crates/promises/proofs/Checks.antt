@@ -111,17 +111,17 @@ head-among more sf symbols =
     head-cases sf symbols (HeadGives (heads more)) refl refl refl (λ low l. refl)
     (λ low high none. said-among (heads more) refl refl refl (tab 5 (nibbleAt (headerFound sf symbols))))
 
-body-among : (F : Frame) (symbols : List ℕ) (room len : ℕ) → ReadGives reads (bodyOf F symbols room len)
+body-among : (F : Frame) (symbols : List ℕ) (room marks len : ℕ) → ReadGives reads (bodyOf F symbols room marks len)
 unfolding oneOf
-body-among F symbols room len = body-cases F symbols room len (ReadGives reads) refl refl refl (λ l. refl) refl (λ fits. tt)
+body-among F symbols room marks len = body-cases F symbols room marks len (ReadGives reads) refl refl refl refl (λ l. refl) refl (λ fits lists. tt)
 
-pub read-among : (sf : ℕ) (low : Bool) (symbols : List ℕ) (room : ℕ) → ReadGives reads (readOf sf low symbols room)
+pub read-among : (sf : ℕ) (low : Bool) (symbols : List ℕ) (room marks : ℕ) → ReadGives reads (readOf sf low symbols room marks)
 unfolding readOf
-read-among sf low symbols room = by (headOf sf symbols) (head-among (4 ∷ 12 ∷ []) sf symbols)
+read-among sf low symbols room marks = by (headOf sf symbols) (head-among (4 ∷ 12 ∷ []) sf symbols)
   where
-    by : (h : Heading) → HeadGives reads h → ReadGives reads (onward h sf low symbols room)
+    by : (h : Heading) → HeadGives reads h → ReadGives reads (onward h sf low symbols room marks)
     by (HeadRefused number place) g = g
-    by (Says h) g = body-among (frameSaid sf low (h .cr) (h .checked)) symbols room (h .length)
+    by (Says h) g = body-among (frameSaid sf low (h .cr) (h .checked)) symbols room marks (h .length)
 
 -- a word of 4/7 can be read
 pub found-at : (cr w : ℕ) → cr ≡ 3 → w < 2 ^ (4 + cr) → isUnreadable (readAs cr w) ≡ false
@@ -139,14 +139,15 @@ head-seven sf symbols place =
     (λ low high none e. absurd (true≢false (sym (rw e at (said-among (9 ∷ 10 ∷ 11 ∷ []) refl refl refl (tab 5 (nibbleAt (headerFound sf symbols))))))))
 
 -- and behind the header at a data codeword that can't be read
-pub body-seven : (F : Frame) (symbols : List ℕ) (room len place : ℕ) → bodyOf F symbols room len ≡ Refused 7 place → unreadableAt (foundAt F symbols) place ≡ true
+pub body-seven : (F : Frame) (symbols : List ℕ) (room marks len place : ℕ) → bodyOf F symbols room marks len ≡ Refused 7 place → unreadableAt (foundAt F symbols) place ≡ true
 unfolding unreadableInData nibblesOf
-body-seven F symbols room len place =
-    body-cases F symbols room len (λ r. r ≡ Refused 7 place → unreadableAt (foundAt F symbols) place ≡ true)
+body-seven F symbols room marks len place =
+    body-cases F symbols room marks len (λ r. r ≡ Refused 7 place → unreadableAt (foundAt F symbols) place ≡ true)
+    (λ e. absurd (let z : _≡_ {A = ℕ} 4 7 = cc in omega arith))
     (λ e. absurd (let z : _≡_ {A = ℕ} 4 7 = cc in omega arith))
     (λ e. absurd (let z : _≡_ {A = ℕ} 5 7 = cc in omega arith))
     (λ e. absurd (let z : _≡_ {A = ℕ} 6 7 = cc in omega arith))
     (λ l e. let same : unreadableInData F symbols len ≡ place = cc in
     rw (← same) (first-found (unreadableAt (foundAt F symbols)) (dataNibbles len (F .checked)) (F .header) l))
     (λ e. absurd (let z : _≡_ {A = ℕ} 12 7 = cc in omega arith))
-    (λ fits e. absurd (let z : _≡_ {A = ℕ} 0 1 = cc in omega arith))
+    (λ fits lists e. absurd (let z : _≡_ {A = ℕ} 0 1 = cc in omega arith))

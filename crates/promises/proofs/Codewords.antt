@@ -20,9 +20,9 @@ use Rattle.lora.specs.declared.Settings.{Settings}
 use Rattle.lora.specs.declared.Counted.the-variants.{Symbols}
 use Rattle.lora.specs.declared.Received.{Received}
 use Rattle.lora.proofs.CountLaws.{coded}
-use Rattle.reading.specs.Found.{foundAt}
-use Rattle.promises.specs.Damage.{readWords, blockFor, changedBits, FewSymbols, FewValues, FewBits, Passed, hurt, hurtAfterFirst, hurtTwice, ReturnedUnless}
-use Rattle.promises.proofs.Near.{Sent, changed-le, values-le, found-none, found-repaired, found-unreadable, found-double, rate-in-first, rate-in-later}
+use Rattle.reading.specs.Found.{foundAt, repairedIn}
+use Rattle.promises.specs.Damage.{readWords, blockFor, changedBits, changedIn, FewSymbols, FewValues, FewBits, Passed, hurt, hurtAfterFirst, hurtTwice, ReturnedUnless}
+use Rattle.promises.proofs.Near.{Sent, changed-le, values-le, found-none, found-repaired, found-unreadable, found-double, marks-none, marks-one, rate-in-first, rate-in-later}
 use Rattle.promises.proofs.Answers.{FoundAs, answered}
 
 -- the cells that code wrote are the frame
@@ -59,8 +59,8 @@ module _ (s : Settings) (payload arrived : List ℕ) (i : ℕ) where
   unfolding hurtTwice
   twice n e = rw e
 
-module _ {s : Settings} {payload old sent : List ℕ} {count : ℕ} {arrived buffer buffer′ : List ℕ} {answer : Received}
-    (c : Passed s payload old sent count arrived buffer buffer′ answer) where
+module _ {s : Settings} {payload old sent : List ℕ} {count : ℕ} {arrived buffer buffer′ hurts hurts′ : List ℕ} {answer : Received}
+    (c : Passed s payload old sent count arrived buffer buffer′ hurts hurts′ answer) where
   pub sender : Sent s payload
   sender =
       let k = coded s payload (length old) count (sym (c .coded .answer)) .0 in
@@ -90,29 +90,32 @@ module _ {s : Settings} {payload old sent : List ℕ} {count : ℕ} {arrived buf
       at false e = let l = leb-false (s .sf - 2) i e in a l (rate-in-first s i l)
 
   pub answered-by : (test : ℕ → Bool) → ((i : ℕ) → i < readWords s payload → FoundAs test s payload arrived i)
-      → ReturnedUnless test s payload arrived count buffer buffer′ answer
+      → ReturnedUnless test s payload arrived count buffer buffer′ hurts hurts′ answer
   answered-by test each =
       rw counts
-      (answered test s payload arrived buffer buffer′ answer sender (omega (arith, counts, c .enough)) (λ t l. c .below t (omega (arith, counts)))
-      (c .room) (c .read) each)
+      (answered test s payload arrived buffer buffer′ hurts hurts′ answer sender (omega (arith, counts, c .enough)) (λ t l. c .below t (omega (arith, counts)))
+      (c .room) (omega (arith, counts, c .lists)) (c .read) each)
 
   module _ (test : ℕ → Bool) (i : ℕ) where
     -- a codeword whose nibble comes back, repaired where it has a changed bit
     read-back : {found : Found} → foundAt (frameOf s) arrived i ≡ found → test i ≡ false → isUnreadable found ≡ false → isRepaired found ≡ hurt s payload arrived i
-        → nibbleOf found ≡ sentNibble s payload i → FoundAs test s payload arrived i
-    read-back e f unreadable repaired nibble =
+        → nibbleOf found ≡ sentNibble s payload i → ((t : ℕ) → repairedIn (frameOf s) arrived t i ≡ changedIn s payload arrived t i)
+        → FoundAs test s payload arrived i
+    read-back e f unreadable repaired nibble marks =
         record {
           unreadable = ap isUnreadable e ∙ unreadable ∙ sym f;
           repaired = λ _. ap isRepaired e ∙ repaired;
           nibble = λ _. ap nibbleOf e ∙ nibble;
+          marks = λ _. marks;
         }
 
     -- with no changed bit it is taken, and with one repaired at 4/7 and 4/8
     pub clean : test i ≡ false → changedBits s payload arrived i ≡ 0 → FoundAs test s payload arrived i
-    clean f e = read-back (found-none s payload arrived sender i e) f refl (sym (hurt-none s payload arrived i e)) refl
+    clean f e = read-back (found-none s payload arrived sender i e) f refl (sym (hurt-none s payload arrived i e)) refl (λ t. marks-none s payload arrived sender i t e)
 
     pub repaired : test i ≡ false → 3 ≤ blockFor s i .rate → changedBits s payload arrived i ≡ 1 → FoundAs test s payload arrived i
     repaired f r e = read-back (found-repaired s payload arrived sender i r e) f refl (sym (hurt-some s payload arrived i (omega arith))) refl
+        (λ t. marks-one s payload arrived sender i t r e)
 
     -- with one at 4/5 and 4/6, and with two at 4/8, it can't be read
     lost : foundAt (frameOf s) arrived i ≡ Unreadable → test i ≡ true → FoundAs test s payload arrived i
@@ -121,6 +124,7 @@ module _ {s : Settings} {payload old sent : List ℕ} {count : ℕ} {arrived buf
           unreadable = ap isUnreadable e ∙ sym f;
           repaired = λ t. absurd (let z : _≡_ {A = ℕ} 0 1 = cc in omega arith);
           nibble = λ t. absurd (let z : _≡_ {A = ℕ} 0 1 = cc in omega arith);
+          marks = λ t. absurd (let z : _≡_ {A = ℕ} 0 1 = cc in omega arith);
         }
 
     pub lost-by-one : test i ≡ true → blockFor s i .rate ≤ 2 → changedBits s payload arrived i ≡ 1 → FoundAs test s payload arrived i

@@ -9,7 +9,8 @@ use lib.IntN.{ℤ, pos, negsuc}
 use lib.ListN.{length, getD, drop}
 use lib.Pow.{pow-pos}
 use borrow.Author.Tests.{eq-eqb}
-use Rattle.bits.specs.Tab.{Bytes}
+use Rattle.bits.specs.Tab.{Bytes, over}
+use Rattle.bits.proofs.Tabs.{over-cong}
 use Rattle.bits.proofs.Searches.{howMany-none}
 use Rattle.block.specs.Block.{symbolOfCodewords}
 use Rattle.block.specs.Gray.{numberOfValue, valueOfNumber}
@@ -22,7 +23,7 @@ use Rattle.layout.specs.declared.Frame.{Frame}
 use Rattle.layout.proofs.LayoutLaws.{symbol-in, symbols-below, symbols-ge}
 use Rattle.lora.specs.Code.{sentNibble, sentSymbol, Coding}
 use Rattle.lora.specs.Count.{frameOf}
-use Rattle.lora.specs.Read.{Reading}
+use Rattle.lora.specs.Read.{acceptedOf, Reading}
 use Rattle.lora.specs.declared.Accepted.{Accepted}
 use Rattle.lora.specs.declared.Settings.{Settings}
 use Rattle.lora.specs.declared.Counted.the-variants.{Symbols}
@@ -31,10 +32,12 @@ use Rattle.lora.specs.declared.Received.the-variants.{Payload}
 use Rattle.lora.proofs.AnswerLaws.{accepts}
 use Rattle.lora.proofs.CountLaws.{coded}
 use Rattle.lora.proofs.HeadLaws.{head-sound}
-use Rattle.promises.specs.Damage.{readWords, blockAt, valueIn, changedValues, changedBits, FewValues, Passed, hurt}
+use Rattle.promises.specs.Damage.{readWords, blockAt, valueIn, changedValues, changedBits, changedIn, changedBySymbol, FewValues, Passed, hurt}
 use Rattle.promises.specs.Drifted.{isSpaced, Drifted, IsDrift}
 use Rattle.promises.proofs.Answers.{never}
 use Rattle.promises.proofs.Codewords.{sender, counts, frame-cells, few-bits, answered-by, clean, hurt-none}
+use Rattle.reading.specs.Found.{repairedIn}
+use Rattle.promises.proofs.Near.{found-none, marks-none}
 use Rattle.promises.proofs.Unchanged.{below-limit}
 
 -- a block at the four-wide spacing has SF - 2 rows
@@ -84,8 +87,8 @@ same-value : (sf rows : ℕ) (wide : Bool) (arrived sent : ℕ)
 same-value sf rows false arrived sent near as-sent = ap (valueOfNumber rows false) (as-sent refl)
 same-value sf rows true arrived sent near as-sent = let (e, is) = near refl in rw e is
 
-module _ {d : ℕ → ℤ} {s : Settings} {payload old sent : List ℕ} {count : ℕ} {arrived buffer buffer′ : List ℕ} {answer : Received}
-    (p : Passed s payload old sent count arrived buffer buffer′ answer) (near : Drifted d s sent count arrived) where
+module _ {d : ℕ → ℤ} {s : Settings} {payload old sent : List ℕ} {count : ℕ} {arrived buffer buffer′ hurts hurts′ : List ℕ} {answer : Received}
+    (p : Passed s payload old sent count arrived buffer buffer′ hurts hurts′ answer) (near : Drifted d s sent count arrived) where
   -- symbol j of block b is one of the frame's, with the block's spacing, and as it arrives it has the value that was sent
   module _ (b j : ℕ) (h : b ≤ laterBlocks (frameOf s) (readWords s payload)) (l : j < 4 + blockAt s b .rate) where
     inside : blockAt s b .symbol + j < count
@@ -123,28 +126,37 @@ module _ {d : ℕ → ℤ} {s : Settings} {payload old sent : List ℕ} {count :
       let (small, is) = near .near 0 here (first-spaced s) in
       ap (driftOf (s .sf)) is ∙ tells-drift (p .coded) 0 here (first-spaced s) (d 0) small
 
+  -- no symbol changed a bit of it
+  unchanged : (i t : ℕ) → changedBits s payload arrived i ≡ 0 → changedIn s payload arrived t i ≡ false
+  unfolding repairedIn
+  unchanged i t e = sym (marks-none s payload arrived (sender p) i t e) ∙ rw (found-none s payload arrived (sender p) i e)
+
   read-clean : (answer ≡ Payload (record { length = length payload; cr = s .cr; checked = s .checked; symbols = count; repairs = 0; drift = d 0 }))
-      × (buffer′ ≡ payload ++ drop (length payload) buffer)
+      × (buffer′ ≡ payload ++ drop (length payload) buffer) × (hurts′ ≡ over count (λ _. 0) hurts)
+  unfolding changedBySymbol
   read-clean =
       let r = never (answered-by p (λ _. false) (λ i h. clean p _ i refl (none i h))) in
       let repairs = howMany-none (hurt s payload arrived) (readWords s payload) (λ i h. hurt-none s payload arrived i (none i h)) in
       let says : ℕ → ℤ → Received
       = λ n x. Payload (record { length = length payload; cr = s .cr; checked = s .checked; symbols = count; repairs = n; drift = x }) in
-      (r .says ∙ ap₂ says repairs first-drift, r .cells)
+      let unhurt = over-cong count _ (λ _. 0) hurts (λ t l. howMany-none (changedIn s payload arrived t) (readWords s payload) (λ i h. unchanged i t (none i h))) in
+      (r .says ∙ ap₂ says repairs first-drift, r .cells, r .marks ∙ unhurt)
 
 -- A frame whose symbols at the four-wide spacing each arrive -2 to +1 from what was sent, the others as sent, is read with no
--- repairs, and its drift is the first one's.
-pub drifted : (d : ℕ → ℤ) (s : Settings) (payload old sent : List ℕ) (count : ℕ) (arrived buffer buffer′ : List ℕ) (answer : Received)
+-- repairs, none in any symbol, and its drift is the first one's.
+pub drifted : (d : ℕ → ℤ) (s : Settings) (payload old sent : List ℕ) (count : ℕ) (arrived buffer buffer′ hurts hurts′ : List ℕ) (answer : Received)
     → Bytes payload
     → Coding s payload old sent (Symbols count)
     → count ≤ length arrived
     → Drifted d s sent count arrived
     → length payload ≤ length buffer
-    → Reading (s .sf) (s .low) arrived buffer buffer′ answer
+    → count ≤ length hurts
+    → Reading (s .sf) (s .low) arrived buffer buffer′ hurts hurts′ answer
     → (answer ≡ Payload (record { length = length payload; cr = s .cr; checked = s .checked; symbols = count; repairs = 0; drift = d 0 }))
     × (buffer′ ≡ payload ++ drop (length payload) buffer)
-drifted d s payload old sent count arrived buffer buffer′ answer bytes c enough near room read =
-    read-clean (record { bytes = bytes; coded = c; enough = enough; below = below; room = room; read = read }) near
+    × (hurts′ ≡ over count (λ _. 0) hurts)
+drifted d s payload old sent count arrived buffer buffer′ hurts hurts′ answer bytes c enough near room lists read =
+    read-clean (record { bytes = bytes; coded = c; enough = enough; below = below; room = room; lists = lists; read = read }) near
   where
     by : (t : ℕ) → t < count → (w : Bool) → isSpaced s t ≡ w → getD arrived t 0 < 2 ^ (s .sf)
     by t h true e = rw (near .near t h e .1) (moved-below _ _ _ (pow-pos (s .sf)))
@@ -171,9 +183,10 @@ unfolding markOf driftOf distance stepsUp numberOfValue valueOfNumber
 rows = (refl, refl)
 
 -- Every accepted frame is answered with the drift of its first symbol.
-pub accepted-drift : (sf : ℕ) (low : Bool) (symbols old new : List ℕ) (a : Accepted) → Reading sf low symbols old new (Payload a)
+pub accepted-drift : (sf : ℕ) (low : Bool) (symbols old new hurts hurts′ : List ℕ) (a : Accepted) → Reading sf low symbols old new hurts hurts′ (Payload a)
     → (7 ≤ sf) × (getD symbols 0 0 < 2 ^ sf) × (a .drift ≡ driftOf sf (getD symbols 0 0))
-accepted-drift sf low symbols old new a r =
-    let k = accepts sf low symbols (length old) a (sym (r .answer)) in
+unfolding acceptedOf
+accepted-drift sf low symbols old new hurts hurts′ a r =
+    let k = accepts sf low symbols (length old) (length hurts) a (sym (r .answer)) in
     let h = head-sound sf symbols _ (k .head) in
-    (h .sf-low, h .starts 0 (omega arith), k .drift)
+    (h .sf-low, h .starts 0 (omega arith), ap (λ (x : Accepted). x .drift) (k .is))

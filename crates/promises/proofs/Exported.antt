@@ -1,4 +1,4 @@
--- Outcomes of the functions exported to C and Rust are determined: the number returned, the answer's cells, and the lent list.
+-- Outcomes of the functions exported to C and Rust are determined: the number returned, the answer's cells, and the lent lists.
 -- Assumes nothing.
 use mathlib.Core.Path.{_≡_, sym, _∙_}
 use mathlib.Core.Bool.{Bool}
@@ -39,9 +39,10 @@ pub code-exported : {a : Counted} {s : Settings} {payload kept out out′ old ne
     → CodeExported a s payload kept out old new r → CodeExported a s payload kept out′ old new′ r′ → Same r r′ new new′ × (out ≡ out′)
 code-exported p q = (exported (p .is) (q .is), lent (p .symbols) (q .symbols))
 
-pub read-exported : {a : Received} {sf : ℕ} {low : Bool} {symbols kept out out′ old new new′ : List ℕ} {r r′ : ℕ}
-    → ReadExported a sf low symbols kept out old new r → ReadExported a sf low symbols kept out′ old new′ r′ → Same r r′ new new′ × (out ≡ out′)
-read-exported p q = (exported (p .is) (q .is), lent (p .bytes) (q .bytes))
+pub read-exported : {a : Received} {sf : ℕ} {low : Bool} {symbols kept out out′ hurts marks marks′ old new new′ : List ℕ} {r r′ : ℕ}
+    → ReadExported a sf low symbols kept out hurts marks old new r → ReadExported a sf low symbols kept out′ hurts marks′ old new′ r′
+    → Same r r′ new new′ × (out ≡ out′) × (marks ≡ marks′)
+read-exported p q = (exported (p .is) (q .is), lent (p .bytes) (q .bytes), lent (p .marks) (q .marks))
 
 pub day-write-exported : {a : Written} {file kept out out′ old new new′ : List ℕ} {r r′ : ℕ}
     → WriteExported a file kept out old new r → WriteExported a file kept out′ old new′ r′ → Same r r′ new new′ × (out ≡ out′)

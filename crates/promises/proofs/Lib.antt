@@ -8,6 +8,7 @@ pub mod Drifted
 pub mod Demand1
 pub mod Demand2
 pub mod Demand3
+pub mod Hurt
 pub mod Determined
 pub mod Exported
 pub mod Checks

@@ -1,18 +1,21 @@
 -- Damage is local: what changed symbols do to a codeword, and what it is found to be.
 -- Assumes nothing.
-use mathlib.Core.Path.{_≡_, refl, ap, _∙_}
-use mathlib.Core.Bool.{not}
+use mathlib.Core.Path.{_≡_, refl, sym, ap, _∙_}
+use mathlib.Core.Bool.{Bool, true, false, not, _&&_}
 use mathlib.Core.List.{List}
 use Prim.Native.Nat.{ℕ, _+_, _-_, _^_, _≤_, _<_}
+use native.Mathlib.Decide.{ℕ-discrete}
 use native.Mathlib.Omega.{arith}
-use lib.Dec.{eqb}
+use lib.Dec.{eqb, leb, ltb}
 use lib.ListN.{length, getD}
+use borrow.Author.Tests.{leb-true, leb-false, ltb-true, ltb-false, eq-eqb, ne-eqb}
+use Rattle.bits.specs.Bit.{bit}
 use Rattle.bits.specs.Search.{howMany}
 use Rattle.bits.specs.Tab.{Bytes}
-use Rattle.bits.proofs.Searches.{howMany-cong, howMany-mono}
+use Rattle.bits.proofs.Searches.{howMany-cong, howMany-mono, howMany-zero}
 use Rattle.block.specs.Gray.{valueOfNumber}
-use Rattle.block.proofs.BlockLaws.{wrong-bits, not-eqb-mono}
-use Rattle.codeword.specs.Codeword.{codeword, apart, readAs}
+use Rattle.block.proofs.BlockLaws.{local, wrong-bits, not-eqb-mono}
+use Rattle.codeword.specs.Codeword.{codeword, apart, bitTo, readAs}
 use Rattle.codeword.specs.Ranges.{Rate}
 use Rattle.codeword.specs.declared.Found.{Found}
 use Rattle.codeword.specs.declared.Found.the-variants.{Taken, Repaired, Unreadable}
@@ -27,9 +30,31 @@ use Rattle.layout.proofs.LayoutLaws.{codeword-place, block-of-read, rate-first,
 use Rattle.lora.specs.Code.{sentNibble, sentSymbol}
 use Rattle.lora.specs.Count.{frameOf}
 use Rattle.lora.specs.declared.Settings.{Settings}
-use Rattle.reading.specs.Found.{wordInBlock, foundInBlock, foundAt}
+use Rattle.reading.specs.Found.{wordInBlock, foundInBlock, foundAt, symbolOfBit, repairedIn}
 use Rattle.reading.proofs.ReadingLaws.{word-lt}
-use Rattle.promises.specs.Damage.{readWords, blockAt, blockFor, sentWord, arrivedWord, changedBits, changedSymbols, valueIn, changedValues}
+use Rattle.promises.specs.Damage.{readWords, blockAt, blockFor, sentWord, arrivedWord, changedBits, changedIn, changedSymbols, valueIn, changedValues}
+
+-- bits that stand in the symbols from the first on: none, or one, in its symbol
+no-bit : (first columns t : ℕ) (p : ℕ → Bool) → ((j : ℕ) → j < columns → p j ≡ false) → false ≡ (leb first t && (ltb (t - first) columns && p (t - first)))
+no-bit first columns t p none = by (leb first t) (ltb (t - first) columns) refl
+  where
+    by : (a b : Bool) → ltb (t - first) columns ≡ b → false ≡ (a && (b && p (t - first)))
+    by false b e = refl
+    by true false e = refl
+    by true true e = sym (none (t - first) (ltb-true (t - first) columns e))
+
+one-bit : (first columns k t : ℕ) (p : ℕ → Bool) → k < columns → ((j : ℕ) → j < columns → p j ≡ eqb j k)
+    → eqb (first + k) t ≡ (leb first t && (ltb (t - first) columns && p (t - first)))
+one-bit first columns k t p l one = by (leb first t) (ltb (t - first) columns) refl refl
+  where
+    at : first ≤ t → Dec (t - first ≡ k) → eqb (first + k) t ≡ eqb (t - first) k
+    at h (yes e) = eq-eqb (first + k) t (omega arith) ∙ sym (eq-eqb (t - first) k e)
+    at h (no e) = ne-eqb (first + k) t (λ q. e (omega arith)) ∙ sym (ne-eqb (t - first) k e)
+
+    by : (a b : Bool) → leb first t ≡ a → ltb (t - first) columns ≡ b → eqb (first + k) t ≡ (a && (b && p (t - first)))
+    by false b d e = ne-eqb (first + k) t (λ q. omega (arith, leb-false first t d))
+    by true false d e = ne-eqb (first + k) t (λ q. omega (arith, ltb-false (t - first) columns e))
+    by true true d e = at (leb-true first t d) (ℕ-discrete (t - first) k) ∙ sym (one (t - first) (ltb-true (t - first) columns e))
 
 -- valid settings and a payload of at most 255 bytes
 pub record Sent (s : Settings) (payload : List ℕ) : Type 0 where
@@ -65,6 +90,18 @@ module _ (s : Settings) (payload sent arrived : List ℕ) (p : Sent s payload)
   sent-in-block b j h l =
       let within = symbols-below (frameOf s) (p .valid) (readWords s payload) b h in
       frame _ (omega arith) ∙ symbol-of-block (frameOf s) (sentNibble s payload) b j (p .valid) l
+
+  -- a symbol that is read as the value that was sent changes no bit of a codeword
+  pub same-bit : (i j : ℕ) → i < readWords s payload → j < 4 + blockFor s i .rate → valueIn (blockFor s i) arrived j ≡ valueIn (blockFor s i) sent j
+      → bit j (arrivedWord s arrived i) ≡ bit j (sentWord s payload i)
+  unfolding valueIn arrivedWord blockFor wordInBlock symbolInBlock
+  same-bit i j h l e =
+      let b : ℕ = blockOfCodeword (frameOf s) i in
+      let B : Block = blockAt s b in
+      let own : symbolInBlock B (sentNibble s payload) j ≡ getD sent (B .symbol + j) 0 = sym (sent-in-block b j (block-of-read (frameOf s) (p .valid) i (readWords s payload) h) l) in
+      local (B .rows) (4 + B .rate) (B .spaced) (codewordInBlock B (sentNibble s payload)) (λ k. getD arrived (B .symbol + k) 0) (i - B .codeword) j (row-of s (p .valid) i .1) l
+      (e ∙ ap (valueOfNumber (B .rows) (B .spaced)) (sym own))
+      ∙ ap (bit j) (own-word s payload (p .valid) i)
 
   -- a codeword has at most as many changed bits as its block has symbols with changed values
   pub changed-le : (i : ℕ) → i < readWords s payload → changedBits s payload arrived i ≤ changedValues s sent arrived (blockOfCodeword (frameOf s) i)
@@ -107,6 +144,10 @@ module _ (s : Settings) (payload arrived : List ℕ) (p : Sent s payload) where
   unfolding arrivedWord
   arrived-lt i = word-lt (blockFor s i) arrived (i - blockFor s i .codeword)
 
+  -- the bit that flips the word received to the one sent
+  abbrev flippedIn : ℕ → ℕ
+  flippedIn i = bitTo (blockFor s i .rate) (arrivedWord s arrived i) (sentNibble s payload i)
+
   -- no changed bit: it is taken
   pub found-none : (i : ℕ) → changedBits s payload arrived i ≡ 0 → foundAt (frameOf s) arrived i ≡ Taken (sentNibble s payload i)
   unfolding changedBits sentWord found
@@ -114,7 +155,7 @@ module _ (s : Settings) (payload arrived : List ℕ) (p : Sent s payload) where
 
   -- one: it is repaired at 4/7 and 4/8, and can't be read at 4/5 and 4/6
   pub found-repaired : (i : ℕ) → 3 ≤ blockFor s i .rate → changedBits s payload arrived i ≡ 1
-      → foundAt (frameOf s) arrived i ≡ Repaired (sentNibble s payload i)
+      → foundAt (frameOf s) arrived i ≡ Repaired (sentNibble s payload i) (flippedIn i)
   unfolding changedBits sentWord found
   found-repaired i h e = found-is i ∙ code.found-repaired _ _ _ (rate-ok i) (arrived-lt i) (sent-nibble-lt s payload p i) h e
 
@@ -127,6 +168,20 @@ module _ (s : Settings) (payload arrived : List ℕ) (p : Sent s payload) where
   unfolding changedBits sentWord found
   found-double i h e =
       found-is i ∙ rw h (code.found-two (arrivedWord s arrived i) (sentNibble s payload i) (rw h at (arrived-lt i)) (sent-nibble-lt s payload p i) (rw h at e))
+
+  -- it is repaired in the symbols that changed a bit of it: in none, or in one
+  pub marks-none : (i t : ℕ) → changedBits s payload arrived i ≡ 0 → repairedIn (frameOf s) arrived t i ≡ changedIn s payload arrived t i
+  unfolding repairedIn changedIn changedBits apart
+  marks-none i t e =
+      rw (found-none i e)
+      (no-bit (blockFor s i .symbol) (4 + blockFor s i .rate) t (λ j. not (eqb (bit j (arrivedWord s arrived i)) (bit j (sentWord s payload i)))) (howMany-zero _ _ e))
+
+  pub marks-one : (i t : ℕ) → 3 ≤ blockFor s i .rate → changedBits s payload arrived i ≡ 1 → repairedIn (frameOf s) arrived t i ≡ changedIn s payload arrived t i
+  unfolding repairedIn changedIn changedBits symbolOfBit sentWord blockFor blockAt
+  marks-one i t h e =
+      let (within, flip) = code.flip-found _ _ _ (rate-ok i) (arrived-lt i) (sent-nibble-lt s payload p i) e in
+      rw (found-repaired i h e)
+      (one-bit (blockFor s i .symbol) (4 + blockFor s i .rate) (flippedIn i) t _ within (λ j l. code.differs-at _ _ _ (flippedIn i) j flip l))
 
 -- the rate of block 0 is 4/8, that of the others the frame's
 pub rate-in-first : (s : Settings) (i : ℕ) → i < s .sf - 2 → blockFor s i .rate ≡ 4

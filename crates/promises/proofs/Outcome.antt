@@ -89,19 +89,19 @@ module _ (s : Settings) (payload arrived : List ℕ) (p : Sent s payload)
   data-first h = sym (first-skip _ 5 (dataNibbles (length payload) (s .checked)) 0 (λ k a b. before-stop k (omega arith)))
 
   -- read comes as far as the data codewords
-  module _ (room : ℕ) (fits : length payload ≤ room) where
-    body-is : 5 ≤ stop → bodyOf (frameOf s) arrived room (length payload)
+  module _ (room marks : ℕ) (fits : length payload ≤ room) (lists : symbolsOf (frameOf s) (length payload) ≤ marks) where
+    body-is : 5 ≤ stop → bodyOf (frameOf s) arrived room marks (length payload)
         ≡ check (leb (readWords s payload) stop) (Refused 7 stop)
         (check (sumHolds (frameOf s) arrived (length payload)) (Refused 12 0) (Payload (acceptedOf (frameOf s) arrived (length payload))))
     unfolding dataOf readWords
-    body-is h = body-data (frameOf s) arrived room (length payload) fits enough below ∙ rw (data-first h)
+    body-is h = body-data (frameOf s) arrived room marks (length payload) fits lists enough below ∙ rw (data-first h)
 
     -- a codeword of the header, or of the data, can't be read
-    pub read-refused-in-header : stop < 5 → readOf (s .sf) (s .low) arrived room ≡ Refused 7 stop
+    pub read-refused-in-header : stop < 5 → readOf (s .sf) (s .low) arrived room marks ≡ Refused 7 stop
     unfolding readOf
     read-refused-in-header h = rw (head-refused h)
 
-    pub read-refused : 5 ≤ stop → stop < readWords s payload → readOf (s .sf) (s .low) arrived room ≡ Refused 7 stop
+    pub read-refused : 5 ≤ stop → stop < readWords s payload → readOf (s .sf) (s .low) arrived room marks ≡ Refused 7 stop
     unfolding readOf
     read-refused h l = rw (head-says h) (body-is h ∙ rw (lt-leb (readWords s payload) stop l))
 
@@ -129,7 +129,7 @@ module _ (s : Settings) (payload arrived : List ℕ) (p : Sent s payload)
             let sum = rw (length-header (length payload) (s .cr) (s .checked)) at (checksum-back _ payload (s .checked) _ nibble-back e) in
             eq-eqb _ _ (ap checksum payload-is ∙ sym sum)
 
-    pub read-whole : (room : ℕ) → length payload ≤ room → readOf (s .sf) (s .low) arrived room
+    pub read-whole : (room marks : ℕ) → length payload ≤ room → symbolsOf (frameOf s) (length payload) ≤ marks → readOf (s .sf) (s .low) arrived room marks
         ≡ Payload (record {
           length = length payload;
           cr = s .cr;
@@ -139,9 +139,9 @@ module _ (s : Settings) (payload arrived : List ℕ) (p : Sent s payload)
           drift = driftOf (s .sf) (getD arrived 0 0);
         })
     unfolding readOf acceptedOf repairsOf readWords
-    read-whole room fits =
+    read-whole room marks fits lists =
         let h : 5 ≤ stop = omega (arith, five, all) in
-        rw (head-says h) (body-is room fits h ∙ rw (all, le-leb (readWords s payload) (readWords s payload) (omega arith), sum-holds))
+        rw (head-says h) (body-is room marks fits lists h ∙ rw (all, le-leb (readWords s payload) (readWords s payload) (omega arith), sum-holds))
 
     -- and the payload's cells are the payload
     pub cells-are : (old : List ℕ) → over (length payload) (byteFound (frameOf s) arrived) old ≡ payload ++ drop (length payload) old

@@ -44,17 +44,17 @@ pub head-gives : (sf : ℕ) (symbols : List ℕ) {number place : ℕ} → headOf
     → oneOf (1 ∷ 5 ∷ 6 ∷ 7 ∷ 9 ∷ 10 ∷ 11 ∷ []) number ≡ true
 head-gives sf symbols e = rw e at (head-among [] sf symbols)
 
-pub read-gives : {sf : ℕ} {low : Bool} {symbols old new : List ℕ} {number place : ℕ} → Reading sf low symbols old new (Refused number place)
+pub read-gives : {sf : ℕ} {low : Bool} {symbols old new hurts hurts′ : List ℕ} {number place : ℕ} → Reading sf low symbols old new hurts hurts′ (Refused number place)
     → oneOf (1 ∷ 5 ∷ 6 ∷ 7 ∷ 9 ∷ 10 ∷ 11 ∷ 4 ∷ 12 ∷ []) number ≡ true
-read-gives {sf} {low} {symbols} {old} c = rw (← c .answer) at (read-among sf low symbols (length old))
+read-gives {sf} {low} {symbols} {old} {hurts = hurts} c = rw (← c .answer) at (read-among sf low symbols (length old) (length hurts))
 
 -- 7 is the refusal of a codeword at every rate: the first data codeword that can't be read is refused with it.
-pub only-seven : {s : Settings} {len : ℕ} {symbols old new : List ℕ} {answer : Received} → Arrived s len symbols old
-    → Reading (s .sf) (s .low) symbols old new answer → unreadableInData (frameOf s) symbols len < nibblesOf (frameOf s) len
+pub only-seven : {s : Settings} {len : ℕ} {symbols old new hurts hurts′ : List ℕ} {answer : Received} → Arrived s len symbols old hurts
+    → Reading (s .sf) (s .low) symbols old new hurts hurts′ answer → unreadableInData (frameOf s) symbols len < nibblesOf (frameOf s) len
     → answer ≡ Refused 7 (unreadableInData (frameOf s) symbols len)
 unfolding readOf dataOf
-only-seven {s} {len} {symbols} {old} a c l =
-    c .answer ∙ rw (a .head) (body-data (frameOf s) symbols (length old) len (a .room) (a .enough) (a .below) ∙ rw (lt-leb _ _ l))
+only-seven {s} {len} {symbols} {old} {hurts = hurts} a c l =
+    c .answer ∙ rw (a .head) (body-data (frameOf s) symbols (length old) (length hurts) len (a .room) (a .lists) (a .enough) (a .below) ∙ rw (lt-leb _ _ l))
 
 -- At 4/7 every codeword can be read, whatever arrived.
 pub always-readable : (s : Settings) (symbols : List ℕ) (i : ℕ) → blockFor s i .rate ≡ 3 → unreadableAt (foundAt (frameOf s) symbols) i ≡ false
@@ -64,17 +64,17 @@ always-readable s symbols i e =
     found-at (B .rate) (wordInBlock B symbols (i - B .codeword)) e (word-lt B symbols (i - B .codeword))
 
 -- At 4/7 refusal 7 never occurs: the codeword at its place stands in a block of another rate.
-pub never-at-4/7 : {s : Settings} {symbols old new : List ℕ} {place : ℕ} → Said s symbols → Reading (s .sf) (s .low) symbols old new (Refused 7 place)
+pub never-at-4/7 : {s : Settings} {symbols old new hurts hurts′ : List ℕ} {place : ℕ} → Said s symbols → Reading (s .sf) (s .low) symbols old new hurts hurts′ (Refused 7 place)
     → blockFor s place .rate ≡ 3 → ⊥
 unfolding readOf
-never-at-4/7 {s} {symbols} {old} {new} {place} settings c e = by (headOf (s .sf) symbols) refl (sym (c .answer))
+never-at-4/7 {s} {symbols} {old} {new} {hurts} {hurts′} {place} settings c e = by (headOf (s .sf) symbols) refl (sym (c .answer))
   where
-    by : (h : Heading) → headOf (s .sf) symbols ≡ h → onward h (s .sf) (s .low) symbols (length old) ≡ Refused 7 place → ⊥
+    by : (h : Heading) → headOf (s .sf) symbols ≡ h → onward h (s .sf) (s .low) symbols (length old) (length hurts) ≡ Refused 7 place → ⊥
     by (HeadRefused number p) f g =
         let seven : number ≡ 7 = cc in
         let same : p ≡ place = cc in
         omega (arith, e, rate-in-first s place (head-seven (s .sf) symbols place (rw (seven, same) at f)))
     by (Says h) f g =
         let (cr, flag) = settings h f in
-        let bad = body-seven (frameOf s) symbols (length old) (h .length) place (rw (cr, flag) at g) in
+        let bad = body-seven (frameOf s) symbols (length old) (length hurts) (h .length) place (rw (cr, flag) at g) in
         true≢false (sym bad ∙ always-readable s symbols place e)

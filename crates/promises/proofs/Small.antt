@@ -75,11 +75,12 @@ airtime-whole s len khz n time e = one (countOf s len) refl e
     one (Symbols count) f g = two count f (validBandwidth khz) refl g
 
 -- head says what read says
-pub head-agrees : (sf : ℕ) (low : Bool) (symbols : List ℕ) (room : ℕ) (a : Accepted) → readOf sf low symbols room ≡ Payload a
+pub head-agrees : (sf : ℕ) (low : Bool) (symbols : List ℕ) (room marks : ℕ) (a : Accepted) → readOf sf low symbols room marks ≡ Payload a
     → headOf sf symbols ≡ Says (record { length = a .length; cr = a .cr; checked = a .checked })
-head-agrees sf low symbols room a e = accepts sf low symbols room a e .head
+head-agrees sf low symbols room marks a e = accepts sf low symbols room marks a e .head
 
 -- and where head refuses, read refuses likewise
-pub head-refuses : (sf : ℕ) (low : Bool) (symbols : List ℕ) (room number place : ℕ) → headOf sf symbols ≡ HeadRefused number place → readOf sf low symbols room ≡ Refused number place
+pub head-refuses : (sf : ℕ) (low : Bool) (symbols : List ℕ) (room marks number place : ℕ) → headOf sf symbols ≡ HeadRefused number place
+    → readOf sf low symbols room marks ≡ Refused number place
 unfolding readOf
-head-refuses sf low symbols room number place e = rw e
+head-refuses sf low symbols room marks number place e = rw e

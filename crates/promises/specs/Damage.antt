@@ -6,8 +6,9 @@ use mathlib.Core.Path.{_≡_}
 use Prim.Native.Nat.{ℕ, _+_, _-_, _^_, _<_, _≤_}
 use lib.Dec.{eqb, leb, ltb}
 use lib.ListN.{length, getD, drop}
+use Rattle.bits.specs.Bit.{bit}
 use Rattle.bits.specs.Search.{first, howMany}
-use Rattle.bits.specs.Tab.{Bytes}
+use Rattle.bits.specs.Tab.{Bytes, over}
 use Rattle.block.specs.Gray.{valueOfNumber}
 use Rattle.codeword.specs.Codeword.{codeword, apart}
 use Rattle.drift.specs.Drift.{driftOf}
@@ -44,6 +45,16 @@ arrivedWord s arrived i = wordInBlock (blockFor s i) arrived (i - blockFor s i .
 unfoldable pub changedBits : Settings → List ℕ → List ℕ → ℕ → ℕ
 changedBits s payload arrived i = apart (blockFor s i .rate) (arrivedWord s arrived i) (sentWord s payload i)
 
+-- symbol t is one of codeword i's block, and its bit of that codeword arrived changed; in how many codewords read its bit did
+unfoldable pub changedIn : Settings → List ℕ → List ℕ → ℕ → ℕ → Bool
+changedIn s payload arrived t i =
+    let B : Block = blockFor s i in
+    let j : ℕ = t - B .symbol in
+    leb (B .symbol) t && (ltb j (4 + B .rate) && not (eqb (bit j (arrivedWord s arrived i)) (bit j (sentWord s payload i))))
+
+unfoldable pub changedBySymbol : Settings → List ℕ → List ℕ → ℕ → ℕ
+changedBySymbol s payload arrived t = howMany (changedIn s payload arrived t) (readWords s payload)
+
 -- how many symbols of block b arrived as other numbers than were sent
 unfoldable pub changedSymbols : Settings → List ℕ → List ℕ → ℕ → ℕ
 changedSymbols s sent arrived b =
@@ -69,13 +80,14 @@ abbrev pub FewBits : ℕ → Settings → List ℕ → List ℕ → Type 0
 FewBits k s payload arrived = (i : ℕ) → i < readWords s payload → changedBits s payload arrived i ≤ k
 
 -- a payload was coded; as many symbols arrived, each below 2^SF, and were read into enough room; further symbols are free
-pub record Passed (s : Settings) (payload old sent : List ℕ) (count : ℕ) (arrived buffer buffer′ : List ℕ) (answer : Received) : Type 0 where
+pub record Passed (s : Settings) (payload old sent : List ℕ) (count : ℕ) (arrived buffer buffer′ hurts hurts′ : List ℕ) (answer : Received) : Type 0 where
   pub bytes : Bytes payload
   pub coded : Coding s payload old sent (Symbols count)
   pub enough : count ≤ length arrived
   pub below : (t : ℕ) → t < count → getD arrived t 0 < 2 ^ (s .sf)
   pub room : length payload ≤ length buffer
-  pub read : Reading (s .sf) (s .low) arrived buffer buffer′ answer
+  pub lists : count ≤ length hurts
+  pub read : Reading (s .sf) (s .low) arrived buffer buffer′ hurts hurts′ answer
 
 -- codeword i has a changed bit; it has one and stands after block 0; it has two
 unfoldable pub hurt : Settings → List ℕ → List ℕ → ℕ → Bool
@@ -87,8 +99,9 @@ hurtAfterFirst s payload arrived i = leb (s .sf - 2) i && hurt s payload arrived
 unfoldable pub hurtTwice : Settings → List ℕ → List ℕ → ℕ → Bool
 hurtTwice s payload arrived i = eqb (changedBits s payload arrived i) 2
 
--- the sent payload is returned, with a repair for each codeword read that has a changed bit, and the first symbol's drift
-pub record Returned (s : Settings) (payload arrived : List ℕ) (count : ℕ) (old new : List ℕ) (answer : Received) : Type 0 where
+-- the sent payload is returned, with a repair for each codeword read that has a changed bit, in the symbol that changed it, and the
+-- first symbol's drift
+pub record Returned (s : Settings) (payload arrived : List ℕ) (count : ℕ) (old new hurts hurts′ : List ℕ) (answer : Received) : Type 0 where
   pub says : answer ≡ Payload (record {
     length = length payload;
     cr = s .cr;
@@ -98,13 +111,15 @@ pub record Returned (s : Settings) (payload arrived : List ℕ) (count : ℕ) (o
     drift = driftOf (s .sf) (getD arrived 0 0);
   })
   pub cells : new ≡ payload ++ drop (length payload) old
+  pub marks : hurts′ ≡ over count (changedBySymbol s payload arrived) hurts
 
 -- refusal 7 at codeword i, and nothing is written
-pub record RefusedAt (i : ℕ) (old new : List ℕ) (answer : Received) : Type 0 where
+pub record RefusedAt (i : ℕ) (old new hurts hurts′ : List ℕ) (answer : Received) : Type 0 where
   pub says : answer ≡ Refused 7 i
   pub cells : new ≡ old
+  pub marks : hurts′ ≡ hurts
 
 -- the first codeword read of which the test holds decides: with it there is refusal 7 there; where there is none, the payload
-pub record ReturnedUnless (test : ℕ → Bool) (s : Settings) (payload arrived : List ℕ) (count : ℕ) (old new : List ℕ) (answer : Received) : Type 0 where
+pub record ReturnedUnless (test : ℕ → Bool) (s : Settings) (payload arrived : List ℕ) (count : ℕ) (old new hurts hurts′ : List ℕ) (answer : Received) : Type 0 where
   pub decided : let i : ℕ = first test (readWords s payload) 0 in
-      cond (ltb i (readWords s payload)) (RefusedAt i old new answer) (Returned s payload arrived count old new answer)
+      cond (ltb i (readWords s payload)) (RefusedAt i old new hurts hurts′ answer) (Returned s payload arrived count old new hurts hurts′ answer)

@@ -36,9 +36,10 @@ oneOf (a ∷ others) n = eqb n a || oneOf others n
 abbrev pub Said : Settings → List ℕ → Type 0
 Said s symbols = (h : Header) → headOf (s .sf) symbols ≡ Says h → (h .cr ≡ s .cr) × (h .checked ≡ s .checked)
 
--- a header says these settings and this length, and the frame is there whole, below 2^SF, with room for its payload
-pub record Arrived (s : Settings) (len : ℕ) (symbols buffer : List ℕ) : Type 0 where
+-- a header says these settings and this length, and the frame is there whole, below 2^SF, with room for its payload and its marks
+pub record Arrived (s : Settings) (len : ℕ) (symbols buffer hurts : List ℕ) : Type 0 where
   pub head : headOf (s .sf) symbols ≡ Says (record { length = len; cr = s .cr; checked = s .checked })
   pub room : len ≤ length buffer
+  pub lists : symbolsOf (frameOf s) len ≤ length hurts
   pub enough : symbolsOf (frameOf s) len ≤ length symbols
   pub below : (t : ℕ) → t < symbolsOf (frameOf s) len → getD symbols t 0 < 2 ^ (s .sf)
