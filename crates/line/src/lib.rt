@@ -121,7 +121,7 @@ pub fn put_payload(out: &mut [u8], at: usize, payload: &[u8]) -> usize
 }
 
 // The first field, two letters.
-fn put_word(out: &mut [u8], a: u8, b: u8) -> usize
+pub fn put_word(out: &mut [u8], a: u8, b: u8) -> usize
     requires { ⌜ 2 ≤ length (now out) ⌝ }
     ensures { λ r. ⌜ Put 0 (a ∷ b ∷ []) (now (out .entry)) (now (out .exit)) r ⌝ }
 {

@@ -8,8 +8,9 @@ use lib.Dec.{eqb}
 use Rattle.text.specs.Text as text
 use Rattle.text.proofs.AnswerLaws.{answers-text, outcome-text}
 use Rattle.wish.proofs.AnswerLaws.{answers-wish, outcome-wish}
+use Rattle.hurt.proofs.AnswerLaws.{answers-hurt}
 use Rattle.lines.specs.Counts.{none, counted}
-use Rattle.lines.specs.Lines.{Job, frames, wishes, piecesFrom, pieces, lineTo, outcomeTo, linesTo, countsFrom, outputOf, countsOf}
+use Rattle.lines.specs.Lines.{Job, frames, wishes, hurts, piecesFrom, pieces, lineTo, outcomeTo, linesTo, countsFrom, outputOf, countsOf}
 use Rattle.lines.specs.Stream.{startOf, jobOf, runAt, lineAt, outcomeAt, Point, begin, next, fed, step, run, said, runIn, saidIn, ended, lastSaid}
 use Rattle.lines.specs.declared.Counts.{Counts}
 use Rattle.lines.proofs.StreamLaws.{runAt-none, runAt-append, run-append, said-append}
@@ -18,14 +19,17 @@ use Rattle.lines.proofs.StreamLaws.{runAt-none, runAt-append, run-appen
 line-is : (job : Job) (bytes : List ℕ) → lineAt (runAt (startOf job) bytes) ≡ lineTo job bytes
 line-is frames bytes = answers-text bytes
 line-is wishes bytes = answers-wish bytes
+line-is hurts bytes = answers-hurt bytes
 
 outcome-is : (job : Job) (bytes : List ℕ) → outcomeAt (runAt (startOf job) bytes) ≡ outcomeTo job bytes
 outcome-is frames bytes = outcome-text bytes
 outcome-is wishes bytes = outcome-wish bytes
+outcome-is hurts bytes = outcome-text bytes
 
 job-is : (job : Job) (bytes : List ℕ) → jobOf (runAt (startOf job) bytes) ≡ job
 job-is frames bytes = refl
 job-is wishes bytes = refl
+job-is hurts bytes = refl
 
 -- whether a piece has a byte
 unfoldable some : List ℕ → Bool

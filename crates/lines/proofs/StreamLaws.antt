@@ -20,11 +20,11 @@ use Rattle.wish.proofs.ScanLaws as wish-laws
 use Rattle.line.specs.declared.Outcome.{Outcome}
 use Rattle.lines.specs.Counts.{none, counted}
 use Rattle.lines.specs.Lines.{Job}
-use Rattle.lines.specs.Stream.{At, frameAt, wishAt, startOf, jobOf, runAt, lineAt, outcomeAt, Point, begin, next, fed, step, run, said, ended, lastSaid, pointOf, atOf, SanePiece, PieceHolds, Stands, Begins, part, Clear, Ends, Went}
+use Rattle.lines.specs.Stream.{At, frameAt, wishAt, hurtAt, startOf, jobOf, runAt, lineAt, outcomeAt, Point, begin, next, fed, step, run, said, ended, lastSaid, pointOf, atOf, SanePiece, PieceHolds, Stands, Begins, part, Clear, Ends, Went}
 use Rattle.lines.specs.declared.Counts.{Counts}
 use Rattle.lines.specs.declared.Progress.{Progress}
 use Rattle.lines.specs.declared.Piece.{Piece}
-use Rattle.lines.specs.declared.Piece.the-variants.{Frame, Wish}
+use Rattle.lines.specs.declared.Piece.the-variants.{Frame, Wish, Hurt}
 use Rattle.lines.proofs.Parts.{part-more, part-none, part-on}
 
 -- the open piece: no byte, and bytes in two parts
@@ -32,10 +32,12 @@ pub runAt-none : (a : At) → runAt a [] ≡ a
 unfolding text.run wish.run
 runAt-none (frameAt s) = refl
 runAt-none (wishAt s) = refl
+runAt-none (hurtAt s) = refl
 
 pub runAt-append : (a : At) (xs ys : List ℕ) → runAt (runAt a xs) ys ≡ runAt a (xs ++ ys)
 runAt-append (frameAt s) xs ys = ap frameAt (text-laws.run-append s xs ys)
 runAt-append (wishAt s) xs ys = ap wishAt (wish-laws.run-append s xs ys)
+runAt-append (hurtAt s) xs ys = ap hurtAt (text-laws.run-append s xs ys)
 
 -- bytes in two parts
 pub run-append : (p : Point) (xs ys : List ℕ) → run (run p xs) ys ≡ run p (xs ++ ys)
@@ -80,7 +82,7 @@ clear-piece (b ∷ l) p c =
 pub stands-here : (progress : Progress) (numbers : List ℕ) → SanePiece (progress .piece) numbers → Stands (pointOf progress numbers) progress numbers
 stands-here progress numbers s = record { sane = s; is = refl }
 
--- a piece of either kind with nothing taken
+-- a piece of each kind with nothing taken
 pub frame-start : (c : text-struct.Scan) (numbers : List ℕ) → c .refused ≡ false → c .digits ≡ 0 → c .value ≡ 0 → c .count ≡ 0 → length numbers ≡ 834
     → PieceHolds (frameAt text.start) (Frame c) numbers
 unfolding text.run
@@ -88,6 +90,11 @@ frame-start c numbers r d v n l = let h = text-scan.holds-start c numbers r d v 
 
 pub wish-start : {c : wish-struct.Scan} {numbers : List ℕ} → wish.Holds wish.start c numbers → PieceHolds (wishAt wish.start) (Wish c) numbers
 wish-start h = record { sane = h .sane; is = ap wishAt (h .is) }
+
+pub hurt-start : (c : text-struct.Scan) (numbers : List ℕ) → c .refused ≡ false → c .digits ≡ 0 → c .value ≡ 0 → c .count ≡ 0 → length numbers ≡ 834
+    → PieceHolds (hurtAt text.start) (Hurt c) numbers
+unfolding text.run
+hurt-start c numbers r d v n l = let h = text-scan.holds-start c numbers r d v n l in record { sane = h .sane; is = ap hurtAt (h .is) }
 
 -- the beginning of a run
 pub begins : (job : Job) {piece : Piece} {counts : Counts} → ((numbers : List ℕ) → length numbers ≡ 834 → PieceHolds (startOf job) piece numbers) → counts ≡ none
@@ -109,6 +116,7 @@ stands-next progress old h e o = record { sane = h .sane; is = rw (h .is, e, o) 
 pub sane-long : (piece : Piece) (numbers : List ℕ) → SanePiece piece numbers → length numbers ≡ 834
 sane-long (Frame scan) numbers s = s .long
 sane-long (Wish scan) numbers s = s .long
+sane-long (Hurt scan) numbers s = s .long
 
 -- bytes were fed to the open piece
 pub stands-fed : (progress : Progress) (old bytes : List ℕ) {piece : Piece} {numbers : List ℕ} → PieceHolds (runAt (atOf (progress .piece) old) bytes) piece numbers

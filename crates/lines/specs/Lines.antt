@@ -4,16 +4,18 @@ use mathlib.Core.Bool.{cond}
 use mathlib.Core.List.{List, [], _∷_, _++_}
 use Prim.Native.Nat.{ℕ}
 use lib.Dec.{eqb}
+use Rattle.hurt.specs.Hurt as hurt
 use Rattle.line.specs.declared.Outcome.{Outcome}
 use Rattle.text.specs.Text as text
 use Rattle.wish.specs.Wish as wish
 use Rattle.lines.specs.Counts.{none, counted}
 use Rattle.lines.specs.declared.Counts.{Counts}
 
--- the texts that an input holds: frames to be read, or wishes for frames to be made
+-- the texts that an input holds: frames to be read, wishes for frames to be made, or frames of which the hurt symbols are asked
 pub data Job : Type 0 where
   frames : Job
   wishes : Job
+  hurts : Job
 
 -- the pieces of an input; an empty last piece is none
 unfoldable pub piecesFrom : List ℕ → List ℕ → List (List ℕ)
@@ -27,10 +29,12 @@ pieces input = piecesFrom [] input
 abbrev pub lineTo : Job → List ℕ → List ℕ
 lineTo frames bytes = text.answerOf bytes
 lineTo wishes bytes = wish.answerOf bytes
+lineTo hurts bytes = hurt.answerOf bytes
 
 abbrev pub outcomeTo : Job → List ℕ → Outcome
 outcomeTo frames bytes = text.outcomeIs bytes
 outcomeTo wishes bytes = wish.outcomeIs bytes
+outcomeTo hurts bytes = text.outcomeIs bytes
 
 unfoldable pub linesTo : Job → List (List ℕ) → List ℕ
 linesTo job [] = []

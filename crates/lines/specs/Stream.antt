@@ -8,40 +8,47 @@ use lib.Dec.{eqb}
 use lib.ListN.{length, take, drop, getD}
 use Rattle.bits.specs.Search.{howMany}
 use Rattle.put.specs.Put.{Put}
+use Rattle.hurt.specs.Answer as hurt
 use Rattle.line.specs.declared.Outcome.{Outcome}
 use Rattle.text.specs.Scan as text
 use Rattle.wish.specs.Scan as wish
 use Rattle.lines.specs.Counts.{none, counted}
-use Rattle.lines.specs.Lines.{Job, frames, wishes}
+use Rattle.lines.specs.Lines.{Job, frames, wishes, hurts}
 use Rattle.lines.specs.declared.Counts.{Counts}
 use Rattle.lines.specs.declared.Progress.{Progress}
 use Rattle.lines.specs.declared.Piece.{Piece}
-use Rattle.lines.specs.declared.Piece.the-variants.{Frame, Wish}
+use Rattle.lines.specs.declared.Piece.the-variants.{Frame, Wish, Hurt}
 
--- the state of the piece that is open, of the one kind of text or the other
+-- the state of the piece that is open, by what is asked of it
 pub data At : Type 0 where
   frameAt : text.State → At
   wishAt : wish.State → At
+  hurtAt : text.State → At
 
 abbrev pub startOf : Job → At
 startOf frames = frameAt text.start
 startOf wishes = wishAt wish.start
+startOf hurts = hurtAt text.start
 
 abbrev pub jobOf : At → Job
 jobOf (frameAt s) = frames
 jobOf (wishAt s) = wishes
+jobOf (hurtAt s) = hurts
 
 abbrev pub runAt : At → List ℕ → At
 runAt (frameAt s) bytes = frameAt (text.run s bytes)
 runAt (wishAt s) bytes = wishAt (wish.run s bytes)
+runAt (hurtAt s) bytes = hurtAt (text.run s bytes)
 
 abbrev pub lineAt : At → List ℕ
 lineAt (frameAt s) = text.lineAt s
 lineAt (wishAt s) = wish.lineAt s
+lineAt (hurtAt s) = hurt.lineAt s
 
 abbrev pub outcomeAt : At → Outcome
 outcomeAt (frameAt s) = text.outcomeAt s
 outcomeAt (wishAt s) = wish.outcomeAt s
+outcomeAt (hurtAt s) = text.outcomeAt s
 
 -- where a run stands: the open piece, whether it has a byte yet, and the counts of the pieces before it
 pub record Point : Type 0 where
@@ -93,6 +100,7 @@ lastSaid p = cond (p .begun) (lineAt (p .piece)) []
 abbrev pub atOf : Piece → List ℕ → At
 atOf (Frame scan) numbers = frameAt (text.stateOf scan numbers)
 atOf (Wish scan) numbers = wishAt (wish.stateOf scan numbers)
+atOf (Hurt scan) numbers = hurtAt (text.stateOf scan numbers)
 
 unfoldable pub pointOf : Progress → List ℕ → Point
 pointOf progress numbers = record { piece = atOf (progress .piece) numbers; begun = progress .begun; counts = progress .counts }
@@ -101,6 +109,7 @@ pointOf progress numbers = record { piece = atOf (progress .piece) numbers; begu
 abbrev pub SanePiece : Piece → List ℕ → Type 0
 SanePiece (Frame scan) numbers = text.Sane scan numbers
 SanePiece (Wish scan) numbers = wish.Sane scan numbers
+SanePiece (Hurt scan) numbers = text.Sane scan numbers
 
 pub record PieceHolds (a : At) (piece : Piece) (numbers : List ℕ) : Type 0 where
   pub sane : SanePiece piece numbers

@@ -8,15 +8,16 @@ ghost use Rattle.bits.specs.Bit.{asBit};
 ghost use Rattle.line.specs.Outcome.{Answered};
 ghost use Rattle.put.specs.Put.{Put};
 ghost use Rattle.lines.specs.Counts.{none, more, counted, closingLine};
-ghost use Rattle.lines.specs.Lines.{frames as frameJob, wishes as wishJob};
+ghost use Rattle.lines.specs.Lines.{frames as frameJob, wishes as wishJob, hurts as hurtJob};
 ghost use Rattle.lines.specs.Stream.{next, fed, ended, lastSaid, startOf, jobOf, runAt, lineAt, outcomeAt, atOf, pointOf, part, SanePiece, PieceHolds, Stands, Begins, Ends, Went, lineEnds};
 use line::Answer;
 use line::Outcome;
 
-// What was taken of the piece that is open: of a frame to be read, or of a wish for one.
+// What was taken of the piece that is open: of a frame to be read, of a wish for one, or of a frame whose hurt symbols are asked.
 pub enum Piece {
     Frame(text::Scan),
     Wish(wish::Scan),
+    Hurt(text::Scan),
 }
 
 // How many texts were answered: all, accepted with no repairs, accepted with some, refused.
@@ -75,6 +76,17 @@ pub fn wishes() -> Progress
     }
 }
 
+// A run that says which symbols were hurt.
+pub fn hurts() -> Progress
+    ensures { λ r. ⌜ Begins hurtJob r ⌝ }
+{
+    Progress {
+        piece: Piece::Hurt(text::begin()),
+        begun: false,
+        counts: nothing(),
+    }
+}
+
 // The next piece, of the same kind, with nothing taken.
 fn anew(piece: Piece) -> Piece
     ensures { λ r. ⌜ ((old numbers : List ℕ) → length numbers ≡ 834 → PieceHolds (startOf (jobOf (atOf piece old))) r numbers) ⌝ }
@@ -82,6 +94,7 @@ fn anew(piece: Piece) -> Piece
     match piece {
         Piece::Frame(_) => Piece::Frame(text::begin()),
         Piece::Wish(_) => Piece::Wish(wish::begin()),
+        Piece::Hurt(_) => Piece::Hurt(text::begin()),
     }
 }
 
@@ -93,6 +106,7 @@ fn feed(piece: Piece, bytes: &[u8], numbers: &mut [u16]) -> Piece
     match piece {
         Piece::Frame(scan) => Piece::Frame(text::feed(scan, bytes, numbers)),
         Piece::Wish(scan) => Piece::Wish(wish::feed(scan, bytes, numbers)),
+        Piece::Hurt(scan) => Piece::Hurt(text::feed(scan, bytes, numbers)),
     }
 }
 
@@ -104,6 +118,7 @@ fn answer(piece: Piece, numbers: &mut [u16], out: &mut [u8]) -> Answer
     match piece {
         Piece::Frame(scan) => text::answer(scan, numbers, out),
         Piece::Wish(scan) => wish::answer(scan, numbers, out),
+        Piece::Hurt(scan) => hurt::answer(scan, numbers, out),
     }
 }
 

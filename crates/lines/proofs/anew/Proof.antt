@@ -1,6 +1,6 @@
 -- `anew` opens a piece of the same kind.
 -- Assumes nothing.
-use Rattle.lines.proofs.StreamLaws.{frame-start, wish-start}
+use Rattle.lines.proofs.StreamLaws.{frame-start, wish-start, hurt-start}
 use Rattle.wish.proofs.ScanLaws.{holds-start}
 use borrow.Author.Needs.{needs}
 use Rattle.lines.proofs.anew.Statement.{statement}
@@ -18,12 +18,21 @@ enum-told-2 c = search needs
 begin-requires-2 : tie.Need-begin-requires-2
 begin-requires-2 c κs = search needs
 
+enum-told-3 : tie.Need-enum-told-3
+enum-told-3 c = search needs
+
+begin-requires-3 : tie.Need-begin-requires-3
+begin-requires-3 c κs = search needs
+
 returns : tie.Need-returns
 returns c = λ old numbers l. let e = c .begin .ensures in rw (c .before .enum-told .given .1) (frame-start (c .begin .result) numbers (e .0) (e .1) (e .2) (e .3) l)
 
 returns-2 : tie.Need-returns-2
 returns-2 c = λ old numbers l. rw (c .before .enum-told2 .given .1) (wish-start (holds-start (c .begin2 .result) numbers (c .begin2 .ensures) l))
 
+returns-3 : tie.Need-returns-3
+returns-3 c = λ old numbers l. let e = c .begin3 .ensures in rw (c .before .enum-told3 .given .1) (hurt-start (c .begin3 .result) numbers (e .0) (e .1) (e .2) (e .3) l)
+
 pub anew-spec : {M : Type 1} → statement M
 anew-spec =
-    tie.close (tie.spec enum-told begin-requires enum-told-2 begin-requires-2 returns returns-2)
+    tie.close (tie.spec enum-told begin-requires enum-told-2 begin-requires-2 enum-told-3 begin-requires-3 returns returns-2 returns-3)

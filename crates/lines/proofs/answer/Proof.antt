@@ -23,6 +23,15 @@ answer-requires-2 c κs =
     let pre = match .before .before .before .before .pre in
     (rw (match .piece2 .given .1) at (pre .0), pre .1)
 
+enum-known-piece-3 : tie.Need-enum-known-piece-3
+enum-known-piece-3 c = search needs
+
+answer-requires-3 : tie.Need-answer-requires-3
+answer-requires-3 c κs =
+    let match = c .before .before .before in
+    let pre = match .before .before .before .before .pre in
+    (rw (match .piece3 .given .1) at (pre .0), omega (arith, pre .1))
+
 same-length : tie.Need-same-length
 same-length c = search needs
 
@@ -44,6 +53,18 @@ same-length-4 c = search needs
 returns-2 : tie.Need-returns-2
 returns-2 c = let answered = c .before .before .before .before in rw (answered .before .before .before .before .piece2 .given .1) (answered .answer2 .ensures)
 
+same-length-5 : tie.Need-same-length-5
+same-length-5 c = search needs
+
+same-length-6 : tie.Need-same-length-6
+same-length-6 c = search needs
+
+returns-3 : tie.Need-returns-3
+returns-3 c =
+    let answered = c .before .before .before .before in
+    let e = answered .answer3 .ensures in
+    rw (answered .before .before .before .before .piece3 .given .1) (record { long = e .long; short = omega (arith, e .short); cells = e .cells; is = e .is })
+
 pub answer-spec : {M : Type 1} → statement M
 answer-spec =
     tie.close
@@ -52,9 +73,14 @@ answer-spec =
     answer-requires
     enum-known-piece-2
     answer-requires-2
+    enum-known-piece-3
+    answer-requires-3
     same-length
     same-length-2
     returns
     same-length-3
     same-length-4
-    returns-2)
+    returns-2
+    same-length-5
+    same-length-6
+    returns-3)

@@ -1,7 +1,7 @@
 -- `feed` hands the bytes to the text of the piece's kind.
 -- Assumes nothing.
 use mathlib.Core.Path.{ap}
-use Rattle.lines.specs.Stream.{frameAt, wishAt}
+use Rattle.lines.specs.Stream.{frameAt, wishAt, hurtAt}
 use borrow.Author.Needs.{needs}
 use Rattle.lines.proofs.feed.Statement.{statement}
 use Rattle.lines.proofs.feed.Tie as tie
@@ -18,6 +18,12 @@ enum-known-piece-2 c = search needs
 feed-requires-2 : tie.Need-feed-requires-2
 feed-requires-2 c κs = let match = c .before .before in rw (match .piece2 .given .1) at (match .before .before .before .before .pre)
 
+enum-known-piece-3 : tie.Need-enum-known-piece-3
+enum-known-piece-3 c = search needs
+
+feed-requires-3 : tie.Need-feed-requires-3
+feed-requires-3 c κs = let match = c .before .before in rw (match .piece3 .given .1) at (match .before .before .before .before .pre)
+
 same-length : tie.Need-same-length
 same-length c = search needs
 
@@ -30,6 +36,12 @@ same-length-2 c = search needs
 returns-2 : tie.Need-returns-2
 returns-2 c = let e = c .before .before .feed2 .ensures in rw (c .before .before .before .before .before .piece2 .given .1) (record { sane = e .sane; is = ap wishAt (e .is) })
 
+same-length-3 : tie.Need-same-length-3
+same-length-3 c = search needs
+
+returns-3 : tie.Need-returns-3
+returns-3 c = let e = c .before .before .feed3 .ensures in rw (c .before .before .before .before .before .piece3 .given .1) (record { sane = e .sane; is = ap hurtAt (e .is) })
+
 pub feed-spec : {M : Type 1} → statement M
 feed-spec =
     tie.close
@@ -38,7 +50,11 @@ feed-spec =
     feed-requires
     enum-known-piece-2
     feed-requires-2
+    enum-known-piece-3
+    feed-requires-3
     same-length
     returns
     same-length-2
-    returns-2)
+    returns-2
+    same-length-3
+    returns-3)

@@ -1,0 +1,17 @@
+-- What the steps of answering a text are asked with, and the line for a text that was taken byte by byte.
+-- Assumes nothing.
+use mathlib.Core.List.{List}
+use Prim.Native.Nat.{ℕ, _≤_}
+use Rattle.lora.specs.declared.Received.{Received}
+use Rattle.lora.specs.declared.Received.the-variants.{Payload, Refused}
+use Rattle.text.specs.Scan.{State, taken}
+use Rattle.hurt.specs.Hurt.{answerTo}
+
+-- an answer whose symbols have a cell each
+abbrev pub Marked : Received → Type 0
+Marked (Payload a) = a .symbols ≤ 832
+Marked (Refused number place) = Unit
+
+-- what a text that ends in this state is answered
+unfoldable pub lineAt : State → List ℕ
+lineAt s = answerTo (taken s)
