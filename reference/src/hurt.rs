@@ -9,7 +9,11 @@ use crate::words::refusal_line;
 pub fn answer_line(text: &[u8]) -> Vec<u8> {
     let line = match text::frame(text) {
         Ok(frame) => {
-            let hurt = frame.hurts.iter().enumerate().filter(|(_, &count)| count > 0);
+            let hurt = frame
+                .hurts
+                .iter()
+                .enumerate()
+                .filter(|(_, &count)| count > 0);
             let words: String = hurt.map(|(i, count)| format!(" {i}:{count}")).collect();
             format!("ok{words}\n")
         }

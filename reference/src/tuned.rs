@@ -321,7 +321,7 @@ fn remainder(payload: &[u8]) -> u16 {
 #[cfg(test)]
 mod tests {
     use super::*;
-    use crate::cases;
+    use crate::cases::{self, hurts};
     use crate::plain;
     use crate::random::Random;
 
@@ -368,16 +368,36 @@ mod tests {
             if random.once_in(50) {
                 frame.sf = random.byte();
             }
-            let cells = if random.once_in(8) {
-                random.below(260)
-            } else {
-                MOST_BYTES
-            };
-            let (mut out, mut wanted) = (vec![9; cells], vec![9; cells]);
-            let answer = read(frame.sf, frame.low, &frame.symbols, &mut out);
-            let plainly = plain::read(frame.sf, frame.low, &frame.symbols, &mut wanted);
-            assert_eq!(answer, plainly, "{kind:?} {frame:?}");
-            assert_eq!(out, wanted, "{kind:?} {frame:?}");
+            reads_alike(&frame, &mut random);
         }
+        for number in 0..20_000 {
+            let settings = cases::settings(number % cases::SETTINGS);
+            let payload = cases::payload(&mut random);
+            let ways = random.pick(&hurts::WAYS);
+            let hurt = hurts::frame(&settings, payload, ways, &mut random);
+            reads_alike(&hurt.frame, &mut random);
+        }
+    }
+
+    /// With room in both lists, or little in one or both.
+    fn reads_alike(frame: &cases::Frame, random: &mut Random) {
+        let mut lent = |most| {
+            let cells = if random.once_in(8) {
+                random.below(most + 9)
+            } else {
+                most
+            };
+            vec![9; cells]
+        };
+        let (mut out, mut cells) = (lent(MOST_BYTES), lent(MOST_SYMBOLS));
+        let (mut wanted_out, mut wanted_cells) = (out.clone(), cells.clone());
+        let cases::Frame {
+            sf, low, symbols, ..
+        } = frame;
+        let answer = read(*sf, *low, symbols, &mut out, &mut cells);
+        let plainly = plain::read(*sf, *low, symbols, &mut wanted_out, &mut wanted_cells);
+        assert_eq!(answer, plainly, "{frame:?}");
+        assert_eq!(out, wanted_out, "{frame:?}");
+        assert_eq!(cells, wanted_cells, "{frame:?}");
     }
 }
