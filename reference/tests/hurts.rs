@@ -130,8 +130,8 @@ fn order_of_the_refusals() {
         let length = 3 + random.below(MOST_BYTES - 2);
         let payload = random.bytes(length);
         let ways = random.pick(&hurts::WAYS);
-        let mut frame = hurts::frame(&settings, payload, ways, &mut random).frame;
-        let needed = frame.symbols.len();
+        let hurt = hurts::frame(&settings, payload, ways, &mut random);
+        let (mut frame, needed) = (hurt.frame, hurt.hurts.len());
         let last = needed - 1;
         frame.symbols[last] = 1 << frame.sf;
         let few_bytes = random.below(length);

@@ -1,7 +1,7 @@
 //! Frames with hurt symbols that can be read all the same, and what is known of
 //! them from how they were hurt (document 02, Ask 3).
 
-use super::{moved, Frame, WITHIN};
+use super::{follow, moved, Frame, WITHIN};
 use crate::plain::{self, block::Block, header};
 use crate::random::Random;
 use crate::types::{Header, Settings};
@@ -42,8 +42,8 @@ pub struct Hurt {
 }
 
 /// A frame whose blocks are hurt in these ways, those spared that have a rate
-/// which does not repair. The fillers are any, and hurt with the others, at times;
-/// and symbols may be off their marks.
+/// which does not repair. The fillers are hurt with the others, and are any at
+/// times; symbols may be off their marks, and others follow the frame.
 pub fn frame(settings: &Settings, payload: Vec<u8>, ways: &[Way], random: &mut Random) -> Hurt {
     let Settings {
         sf,
@@ -88,6 +88,9 @@ pub fn frame(settings: &Settings, payload: Vec<u8>, ways: &[Way], random: &mut R
         for symbol in &mut symbols[..four_wide] {
             *symbol = moved(*symbol, random.pick(&WITHIN), sf);
         }
+    }
+    if random.once_in(8) {
+        follow(&mut symbols, random);
     }
     let frame = Frame {
         sf,
