@@ -1,5 +1,5 @@
 /* Reads a frame with one symbol spoiled and the first just below its mark, and prints the payload, how many codewords were
- * repaired and the drift; then the same frame cut short, which is refused. */
+ * repaired, the drift and which symbols were hurt; then the same frame cut short, which is refused. */
 #include <inttypes.h>
 #include <stdio.h>
 
@@ -12,9 +12,9 @@ enum { SYMBOLS = sizeof symbols / sizeof symbols[0] };
 
 static uint8_t read_and_print(size_t count)
 {
-    uint8_t payload[LORA_MAX_PAYLOAD];
+    uint8_t payload[LORA_MAX_PAYLOAD], hurts[LORA_MAX_SYMBOLS];
     uint64_t answer[LORA_READ_CELLS];
-    uint8_t number = lora_read(9, 0, symbols, count, payload, sizeof payload, answer, LORA_READ_CELLS);
+    uint8_t number = lora_read(9, 0, symbols, count, payload, sizeof payload, hurts, sizeof hurts, answer, LORA_READ_CELLS);
     size_t i;
 
     if (number != LORA_OK) {
@@ -24,8 +24,12 @@ static uint8_t read_and_print(size_t count)
     printf("payload ");
     for (i = 0; i < answer[0]; i++)
         printf("%02X", payload[i]);
-    printf(", CR %" PRIu64 ", checksum %" PRIu64 ", symbols used %" PRIu64 ", repairs %" PRIu64 ", drift %" PRId64 "\n",
+    printf(", CR %" PRIu64 ", checksum %" PRIu64 ", symbols used %" PRIu64 ", repairs %" PRIu64 ", drift %" PRId64 ", hurt",
            answer[1], answer[2], answer[3], answer[4], (int64_t)answer[5]);
+    for (i = 0; i < answer[3]; i++)
+        if (hurts[i] > 0)
+            printf(" %zu:%u", i, (unsigned)hurts[i]);
+    printf("\n");
     return LORA_OK;
 }
 

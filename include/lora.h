@@ -26,7 +26,7 @@
  *   0          accepted; `answer` holds the values told at the function, from answer[0] on
  *   1 to 16    refused, with a number of the table; answer[0] holds the place, and nothing else is written
  *   255        `answer` has too few cells; nothing is written
- * Cells of `answer` and of `out` that are not named stay as they were.
+ * Cells of `answer`, `out` and `hurts` that are not named stay as they were.
  *
  *   No.                        Given when                                               Place
  *   LORA_BAD_SF            1   SF not 7 to 12                                           0
@@ -62,10 +62,10 @@
 #include <stddef.h>
 #include <stdint.h>
 
-#define LORA_VERSION_MAJOR 3
+#define LORA_VERSION_MAJOR 4
 #define LORA_VERSION_MINOR 0
 #define LORA_VERSION_PATCH 0
-#define LORA_VERSION "3.0.0"
+#define LORA_VERSION "4.0.0"
 
 #ifdef __cplusplus
 extern "C" {
@@ -159,15 +159,20 @@ uint8_t lora_code(uint8_t sf, uint8_t low, uint8_t cr, uint8_t checksum, const u
  * `answer` needs 3 cells: [0] length, [1] CR, [2] checksum flag (0 or 1). */
 uint8_t lora_head(uint8_t sf, const uint16_t *symbols, size_t symbols_len, uint64_t *answer, size_t answer_len);
 
-/* read: SF, low-rate flag and symbols; fills the lent byte buffer `out` from out[0] on with the payload; answers length,
- * CR, checksum flag, symbols used, codewords repaired, and the first symbol's drift: its signed distance from its mark,
- * number less mark round the circle, -2 to +1. Symbols after the frame's own are ignored.
- * Checks what head checks; then 4 for the payload; 5 for the whole frame; 6 over the rest; 7 over data codewords in frame
- * order; 12. After a refusal `out` is as it was.
+/* read: SF, low-rate flag and symbols; fills the lent byte buffer `out` from out[0] on with the payload, and the lent list
+ * `hurts` from hurts[0] on with the number of repaired bits in each symbol used, 0 where there is none; answers length, CR,
+ * checksum flag, symbols used, codewords repaired, and the first symbol's drift: its signed distance from its mark, number
+ * less mark round the circle, -2 to +1. Symbols after the frame's own are ignored.
+ * A codeword is repaired in one bit, and each of its bits stands in another symbol of its block: so hurts[t] is how many
+ * codewords were repaired in their bit of symbol t, those of the header among them and fillers not, and the cells add up to
+ * the codewords repaired. LORA_MAX_SYMBOLS cells are always enough; a caller who has no use for the list lends them too.
+ * Checks what head checks; then 4 for the payload; 4 for `hurts`, the cells needed being the frame's symbols; 5 for the
+ * whole frame; 6 over the rest; 7 over data codewords in frame order; 12. After a refusal `out` and `hurts` are as they
+ * were.
  * `answer` needs 6 cells: [0] length, [1] CR, [2] checksum flag (0 or 1), [3] symbols used, [4] codewords repaired,
  * [5] drift. A cell has no sign, so -1 and -2 come back as 2^64 - 1 and 2^64 - 2: (int64_t)answer[5] is the drift. */
 uint8_t lora_read(uint8_t sf, uint8_t low, const uint16_t *symbols, size_t symbols_len, uint8_t *out, size_t out_len,
-                  uint64_t *answer, size_t answer_len);
+                  uint8_t *hurts, size_t hurts_len, uint64_t *answer, size_t answer_len);
 
 /* day_write: a day's entries as rows of numbers; fills the lent byte buffer `out` from out[0] on with the day's file;
  * answers its length. Rows stand one behind the other, payloads too, in the order of the frames:

@@ -19,7 +19,7 @@ static size_t depth;
 /* What the functions are called with. All of it is outside the stack. */
 static uint8_t sf, low, cr, checksum;
 static size_t length, count;
-static uint8_t payload[LORA_MAX_PAYLOAD], out[LORA_MAX_PAYLOAD];
+static uint8_t payload[LORA_MAX_PAYLOAD], out[LORA_MAX_PAYLOAD], hurts[LORA_MAX_SYMBOLS];
 static uint16_t symbols[LORA_MAX_SYMBOLS];
 static uint64_t answer[LORA_DAY_STEP_CELLS];
 static uint8_t settings[12 * LORA_SETTING_ROW], payloads[255 * LORA_MAX_PAYLOAD], file[LORA_MAX_FILE];
@@ -35,7 +35,7 @@ static void call_code(void)
 
 static void call_read(void)
 {
-    lora_read(sf, low, symbols, count, out, sizeof out, answer, LORA_READ_CELLS);
+    lora_read(sf, low, symbols, count, out, sizeof out, hurts, sizeof hurts, answer, LORA_READ_CELLS);
 }
 
 static void call_head(void)

@@ -1,6 +1,7 @@
 //! Frames to try: clean, drifted, damaged, foreign and made up.
 
 pub mod days;
+pub mod hurts;
 
 use crate::plain::{self, header};
 use crate::random::Random;

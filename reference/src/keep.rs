@@ -3,9 +3,8 @@
 
 use crate::plain::day::{self, Day, Frame, RefusedFrame, Setting, NUMBERS};
 use crate::text::{self, Capture};
-use crate::types::{Received, Refusal};
+use crate::types::Refusal;
 use crate::words::refusal_line;
-use crate::MOST_BYTES;
 
 /// The file of these captures, a text a line, and the lines on standard error.
 pub fn keep(input: &[u8]) -> (Result<Vec<u8>, Refusal>, String) {
@@ -42,18 +41,17 @@ fn texts(input: &[u8]) -> Vec<&[u8]> {
 /// Reads a text and enters what came out, unless the file can't hold it.
 fn enter(text: &[u8], day: &mut Day) -> Result<(), Refusal> {
     let capture = text::capture(text)?;
-    let mut payload = [0; MOST_BYTES];
-    match capture.read(&mut payload) {
-        Ok(Received {
-            header, repairs, ..
+    match capture.read() {
+        Ok(text::Frame {
+            received, payload, ..
         }) => {
             let setting = setting_of(&capture, day);
             day.frames.push(Frame {
                 setting,
-                cr: header.cr,
-                flag: header.checksum.into(),
-                repairs: repairs as u16,
-                payload: payload[..header.length].to_vec(),
+                cr: received.header.cr,
+                flag: received.header.checksum.into(),
+                repairs: received.repairs as u16,
+                payload,
             });
             Ok(())
         }

@@ -2,6 +2,7 @@
 //! the product against it. No code is shared with the product.
 
 pub mod cases;
+pub mod hurt;
 pub mod keep;
 pub mod plain;
 #[cfg(feature = "linked")]

@@ -9,8 +9,14 @@ pub fn code(settings: &Settings, payload: &[u8], out: &mut [u16]) -> Result<usiz
     chyvandra::code(&given(settings), payload, out).map_err(refusal)
 }
 
-pub fn read(sf: u8, low: bool, symbols: &[u16], out: &mut [u8]) -> Result<Received, Refusal> {
-    let received = chyvandra::read(sf, low, symbols, out).map_err(refusal)?;
+pub fn read(
+    sf: u8,
+    low: bool,
+    symbols: &[u16],
+    out: &mut [u8],
+    hurts: &mut [u8],
+) -> Result<Received, Refusal> {
+    let received = chyvandra::read(sf, low, symbols, out, hurts).map_err(refusal)?;
     Ok(Received {
         header: header(received.header),
         symbols: received.symbols,

@@ -6,17 +6,19 @@ use crate::{plain, MOST_BYTES, MOST_SYMBOLS};
 
 /// The line that the program prints for this input.
 pub fn answer_line(text: &[u8]) -> Vec<u8> {
-    let mut payload = [0; MOST_BYTES];
-    let line = match answer(text, &mut payload) {
-        Ok(Received {
-            header,
-            symbols,
-            repairs,
-            // The line keeps its fields (document 02, Ask 2).
-            drift: _,
+    let line = match frame(text) {
+        Ok(Frame {
+            received, payload, ..
         }) => {
+            let Received {
+                header,
+                symbols,
+                repairs,
+                // The line keeps its fields (document 02, Ask 2).
+                drift: _,
+            } = received;
             let flag = u8::from(header.checksum);
-            let hex = hex(&payload[..header.length]);
+            let hex = hex(&payload);
             format!(
                 "ok {} {} {flag} {symbols} {repairs} {hex}\n",
                 header.length, header.cr
@@ -27,8 +29,16 @@ pub fn answer_line(text: &[u8]) -> Vec<u8> {
     line.into_bytes()
 }
 
-fn answer(text: &[u8], payload: &mut [u8]) -> Result<Received, Refusal> {
-    capture(text)?.read(payload)
+/// What reading a text gives: the answer and what it filled of the lent lists.
+pub struct Frame {
+    pub received: Received,
+    pub payload: Vec<u8>,
+    pub hurts: Vec<u8>,
+}
+
+/// Judges a text and reads the frame that it says.
+pub fn frame(text: &[u8]) -> Result<Frame, Refusal> {
+    capture(text)?.read()
 }
 
 /// What a text says: what was heard, and with which settings.
@@ -39,8 +49,17 @@ pub struct Capture {
 }
 
 impl Capture {
-    pub fn read(&self, payload: &mut [u8]) -> Result<Received, Refusal> {
-        plain::read(self.sf, self.low, &self.symbols, payload)
+    pub fn read(&self) -> Result<Frame, Refusal> {
+        let mut payload = vec![0; MOST_BYTES];
+        let mut hurts = vec![0; MOST_SYMBOLS];
+        let received = plain::read(self.sf, self.low, &self.symbols, &mut payload, &mut hurts)?;
+        payload.truncate(received.header.length);
+        hurts.truncate(received.symbols);
+        Ok(Frame {
+            received,
+            payload,
+            hurts,
+        })
     }
 }
 

@@ -10,11 +10,12 @@ pub mod day;
 mod tables;
 
 use crate::types::{refuse, Header, Received, Refusal, Settings};
-use crate::MOST_BYTES;
-use tables::{CHECKS, READING, REMAINDERS, REPAIRED, SPREAD, UNREADABLE, WHITENING};
+use crate::{MOST_BYTES, MOST_SYMBOLS};
+use tables::{CHECKS, HURTS, READING, REMAINDERS, SPREAD, UNREADABLE, WHITENING};
 
 /// The most data nibbles a frame can have: the payload's and the checksum's.
 const MOST_NIBBLES: usize = 2 * MOST_BYTES + 4;
+
 /// `plain::code`.
 pub fn code(settings: &Settings, payload: &[u8], out: &mut [u16]) -> Result<usize, Refusal> {
     let Settings {
@@ -77,7 +78,13 @@ pub fn code(settings: &Settings, payload: &[u8], out: &mut [u16]) -> Result<usiz
 }
 
 /// `plain::read`.
-pub fn read(sf: u8, low: bool, symbols: &[u16], out: &mut [u8]) -> Result<Received, Refusal> {
+pub fn read(
+    sf: u8,
+    low: bool,
+    symbols: &[u16],
+    out: &mut [u8],
+    hurts: &mut [u8],
+) -> Result<Received, Refusal> {
     if !(7..=12).contains(&sf) {
         return refuse(1, 0);
     }
@@ -88,7 +95,7 @@ pub fn read(sf: u8, low: bool, symbols: &[u16], out: &mut [u8]) -> Result<Receiv
     let first = usize::from(sf) - 2;
     let lanes = lanes_of::<8>(symbols, first, 2);
     let mut head = [0; 5];
-    let mut repairs = read_words(lanes, 4, 0, &mut head).or_else(|i| refuse(7, i))?;
+    let mut counts = read_words(lanes, 4, 0, &mut head).or_else(|i| refuse(7, i))?;
     let header = header(head)?;
     let Header {
         length,
@@ -107,6 +114,9 @@ pub fn read(sf: u8, low: bool, symbols: &[u16], out: &mut [u8]) -> Result<Receiv
         },
         length,
     );
+    if hurts.len() < shape.symbols {
+        return refuse(4, shape.symbols);
+    }
     if symbols.len() < shape.symbols {
         return refuse(5, shape.symbols);
     }
@@ -115,15 +125,22 @@ pub fn read(sf: u8, low: bool, symbols: &[u16], out: &mut [u8]) -> Result<Receiv
     let mut nibbles = [0; MOST_NIBBLES];
     let data = &mut nibbles[..shape.nibbles];
     let (in_first, in_later) = data.split_at_mut((first - 5).min(shape.nibbles));
-    repairs += read_words(lanes, 4, 5, in_first).or_else(|i| refuse(7, 5 + i))?;
+    counts += read_words(lanes, 4, 5, in_first).or_else(|i| refuse(7, 5 + i))?;
+    let mut repairs = sum(counts);
+    // Kept apart until nothing can be refused any more. Each block writes eight
+    // cells; those beyond its own are the next one's, and the last has room.
+    let mut cells = [0; MOST_SYMBOLS + 3];
+    cells[..8].copy_from_slice(&counts.to_le_bytes());
     let shift = if low { 2 } else { 0 };
     let later_lanes =
         [lanes_of::<5>, lanes_of::<6>, lanes_of::<7>, lanes_of::<8>][usize::from(cr) - 1];
     let blocks = symbols[8..shape.symbols].chunks_exact(shape.width);
     for (block, (symbols, nibbles)) in blocks.zip(in_later.chunks_mut(shape.rows)).enumerate() {
         let lanes = later_lanes(symbols, shape.rows, shift);
-        repairs += read_words(lanes, cr, 0, nibbles)
+        let counts = read_words(lanes, cr, 0, nibbles)
             .or_else(|i| refuse(7, first + block * shape.rows + i))?;
+        repairs += sum(counts);
+        cells[8 + block * shape.width..][..8].copy_from_slice(&counts.to_le_bytes());
     }
 
     let (pairs, _) = nibbles.as_chunks::<2>();
@@ -139,6 +156,7 @@ pub fn read(sf: u8, low: bool, symbols: &[u16], out: &mut [u8]) -> Result<Receiv
         }
     }
     out[..length].copy_from_slice(payload);
+    hurts[..shape.symbols].copy_from_slice(&cells[..shape.symbols]);
     Ok(Received {
         header,
         symbols: shape.symbols,
@@ -222,16 +240,19 @@ fn lanes_of<const WIDTH: usize>(symbols: &[u16], rows: usize, shift: u32) -> u12
 }
 
 /// The nibbles of the rows from `from` on, as many as `nibbles` holds. Answers
-/// the repairs, or which word can't be read.
-fn read_words(lanes: u128, cr: u8, from: usize, nibbles: &mut [u8]) -> Result<usize, usize> {
+/// the repairs in each column, byte j those of column j, or which word can't be
+/// read.
+fn read_words(lanes: u128, cr: u8, from: usize, nibbles: &mut [u8]) -> Result<u64, usize> {
     let reading = &READING[usize::from(cr) - 1];
+    let hurts = &HURTS[usize::from(cr) - 1];
     let (mut low, mut high) = (lanes as u64 >> from, (lanes >> 64) as u64 >> from);
-    let mut repairs = 0;
+    let mut counts = 0;
     let mut marks = 0;
     for nibble in nibbles.iter_mut() {
-        let found = reading[gathered(low) | gathered(high) << 4];
+        let word = gathered(low) | gathered(high) << 4;
+        let found = reading[word];
         marks |= found;
-        repairs += usize::from(found & REPAIRED != 0);
+        counts += hurts[word];
         *nibble = found;
         low >>= 1;
         high >>= 1;
@@ -242,8 +263,12 @@ fn read_words(lanes: u128, cr: u8, from: usize, nibbles: &mut [u8]) -> Result<us
             .take_while(|found| **found != UNREADABLE)
             .count());
     }
-    nibbles.iter_mut().for_each(|nibble| *nibble &= 15);
-    Ok(repairs)
+    Ok(counts)
+}
+
+/// The sum of the eight bytes, each of them at most a block's rows.
+fn sum(counts: u64) -> usize {
+    (counts.wrapping_mul(0x0101_0101_0101_0101) >> 56) as usize
 }
 
 /// The bottom bits of four lanes, side by side. The terms of the
@@ -296,7 +321,7 @@ fn remainder(payload: &[u8]) -> u16 {
 #[cfg(test)]
 mod tests {
     use super::*;
-    use crate::cases;
+    use crate::cases::{self, hurts};
     use crate::plain;
     use crate::random::Random;
 
@@ -343,16 +368,36 @@ mod tests {
             if random.once_in(50) {
                 frame.sf = random.byte();
             }
-            let cells = if random.once_in(8) {
-                random.below(260)
-            } else {
-                MOST_BYTES
-            };
-            let (mut out, mut wanted) = (vec![9; cells], vec![9; cells]);
-            let answer = read(frame.sf, frame.low, &frame.symbols, &mut out);
-            let plainly = plain::read(frame.sf, frame.low, &frame.symbols, &mut wanted);
-            assert_eq!(answer, plainly, "{kind:?} {frame:?}");
-            assert_eq!(out, wanted, "{kind:?} {frame:?}");
+            reads_alike(&frame, &mut random);
         }
+        for number in 0..20_000 {
+            let settings = cases::settings(number % cases::SETTINGS);
+            let payload = cases::payload(&mut random);
+            let ways = random.pick(&hurts::WAYS);
+            let hurt = hurts::frame(&settings, payload, ways, &mut random);
+            reads_alike(&hurt.frame, &mut random);
+        }
+    }
+
+    /// With room in both lists, or little in one or both.
+    fn reads_alike(frame: &cases::Frame, random: &mut Random) {
+        let mut lent = |most| {
+            let cells = if random.once_in(8) {
+                random.below(most + 9)
+            } else {
+                most
+            };
+            vec![9; cells]
+        };
+        let (mut out, mut cells) = (lent(MOST_BYTES), lent(MOST_SYMBOLS));
+        let (mut wanted_out, mut wanted_cells) = (out.clone(), cells.clone());
+        let cases::Frame {
+            sf, low, symbols, ..
+        } = frame;
+        let answer = read(*sf, *low, symbols, &mut out, &mut cells);
+        let plainly = plain::read(*sf, *low, symbols, &mut wanted_out, &mut wanted_cells);
+        assert_eq!(answer, plainly, "{frame:?}");
+        assert_eq!(out, wanted_out, "{frame:?}");
+        assert_eq!(cells, wanted_cells, "{frame:?}");
     }
 }

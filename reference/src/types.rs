@@ -31,7 +31,7 @@ pub struct Header {
     pub checksum: bool,
 }
 
-/// What reading a frame answers, next to the payload.
+/// What reading a frame answers, next to the payload and the list of hurts.
 #[derive(Clone, Copy, Debug, PartialEq, Eq)]
 pub struct Received {
     pub header: Header,
@@ -51,8 +51,9 @@ pub fn refuse<T>(number: u8, place: usize) -> Result<T, Refusal> {
 
 /// An implementation of code.
 pub type Code = fn(&Settings, &[u8], &mut [u16]) -> Result<usize, Refusal>;
-/// An implementation of read.
-pub type Read = fn(u8, bool, &[u16], &mut [u8]) -> Result<Received, Refusal>;
+/// An implementation of read: the first list is the payload's, the second takes
+/// the repaired bits of each symbol.
+pub type Read = fn(u8, bool, &[u16], &mut [u8], &mut [u8]) -> Result<Received, Refusal>;
 /// An implementation of the day's file: its writer, over rows of numbers.
 pub type DayWrite = fn(&[u8], &[u16], &[u8], &[u16], &mut [u8]) -> Result<usize, Refusal>;
 /// Its check.

@@ -1,5 +1,5 @@
-//! Demands 2 and 3 and the claim of document 02, Ask 2, tried over every setting
-//! with random payloads, on `plain` and `tuned`.
+//! Demands 2 and 3 and the claims of document 02, Asks 2 and 3, tried over every
+//! setting with random payloads, on `plain` and `tuned`.
 
 use reference::cases::{self, blocks, moved};
 use reference::plain::{self, block::Block};
@@ -12,6 +12,12 @@ use reference::{MOST_BYTES, MOST_SYMBOLS};
 const TIMES: usize = 50;
 
 const READERS: [(&str, Read); 2] = [("plain", plain::read), ("tuned", tuned::read)];
+
+/// What lent cells hold beforehand.
+const PAINT: u8 = 0xA5;
+
+/// What reading answers, and the repairs in each symbol.
+type Answered = Result<(Received, Vec<u8>), Refusal>;
 
 /// A frame as it was sent.
 struct Sent {
@@ -34,27 +40,36 @@ impl Sent {
     }
 
     /// What reading answers for an unharmed frame whose first symbol has drifted.
-    fn unharmed(&self, drift: i8) -> Received {
-        Received {
+    fn unharmed(&self, drift: i8) -> (Received, Vec<u8>) {
+        let symbols = self.symbols.len();
+        let received = Received {
             header: Header {
                 length: self.payload.len(),
                 cr: self.settings.cr,
                 checksum: self.settings.checksum,
             },
-            symbols: self.symbols.len(),
+            symbols,
             repairs: 0,
             drift,
-        }
+        };
+        (received, vec![0; symbols])
     }
 
     /// What a reader makes of the symbols that arrived. If it accepts them, the
-    /// payload must be the sent one.
-    fn arrived(&self, read: Read, symbols: &[u16]) -> Result<Received, Refusal> {
-        let mut out = [0; MOST_BYTES];
+    /// payload must be the sent one; cells that it does not fill must stay, which
+    /// are all if it refuses them.
+    fn arrived(&self, read: Read, symbols: &[u16]) -> Answered {
+        let (mut out, mut hurts) = ([PAINT; MOST_BYTES], [PAINT; MOST_SYMBOLS]);
         let Settings { sf, low, .. } = self.settings;
-        let received = read(sf, low, symbols, &mut out)?;
-        assert_eq!(out[..received.header.length], self.payload, "{symbols:?}");
-        Ok(received)
+        let answer = read(sf, low, symbols, &mut out, &mut hurts);
+        let (bytes, cells) = answer.map_or((0, 0), |received| {
+            (received.header.length, received.symbols)
+        });
+        let mut behind = out[bytes..].iter().chain(&hurts[cells..]);
+        assert!(behind.all(|&cell| cell == PAINT), "{symbols:?}");
+        let received = answer?;
+        assert_eq!(out[..bytes], self.payload, "{symbols:?}");
+        Ok((received, hurts[..cells].to_vec()))
     }
 
     /// How many symbols, from the first on, have the four-wide spacing.
@@ -111,9 +126,9 @@ fn drifted_symbols_need_no_repair() {
         let wanted = sent.unharmed(drift);
         for (name, read) in READERS {
             let received = sent.arrived(read, &symbols);
-            assert_eq!(received, Ok(wanted), "{name} {:?}", sent.settings);
+            assert_eq!(received.as_ref(), Ok(&wanted), "{name} {:?}", sent.settings);
         }
-        assert_eq!(plain::head(sent.settings.sf, &symbols), Ok(wanted.header));
+        assert_eq!(plain::head(sent.settings.sf, &symbols), Ok(wanted.0.header));
     });
 }
 
@@ -135,30 +150,34 @@ fn change(sent: &Sent, most: usize, random: &mut Random) -> Vec<u16> {
     symbols
 }
 
-/// The words that a frame's blocks carry, in frame order, those that are read.
-fn words(sent: &Sent, symbols: &[u16]) -> Vec<u8> {
+/// The words that a frame's blocks carry, in frame order, those that are read, each
+/// with the first symbol of its block.
+fn words(sent: &Sent, symbols: &[u16]) -> Vec<(u8, usize)> {
     let Settings {
         sf,
         low,
         cr,
         checksum,
     } = sent.settings;
-    let later = Block::later(sf, low, cr);
-    let mut words = Block::first(sf).words(&symbols[..8]);
-    for block in symbols[8..].chunks(later.width()) {
-        words.extend(later.words(block));
+    let (first, later) = (Block::first(sf), Block::later(sf, low, cr));
+    let mut words = Vec::new();
+    for start in std::iter::once(0).chain((8..symbols.len()).step_by(later.width())) {
+        let block = if start == 0 { &first } else { &later };
+        let bits = block.words(&symbols[start..start + block.width()]);
+        words.extend(bits.into_iter().map(|bits| (bits, start)));
     }
     words.truncate(5 + 2 * sent.payload.len() + if checksum { 4 } else { 0 });
     words
 }
 
-/// The bits of each codeword read that the changes turned.
-fn changed_bits(sent: &Sent, arrived: &[u16]) -> Vec<u32> {
+/// The bits of each codeword read that the changes turned, with the first symbol of
+/// its block.
+fn changed_bits(sent: &Sent, arrived: &[u16]) -> Vec<(u8, usize)> {
     let (sent_words, arrived_words) = (words(sent, &sent.symbols), words(sent, arrived));
     sent_words
         .iter()
         .zip(arrived_words)
-        .map(|(sent, arrived)| (sent ^ arrived).count_ones())
+        .map(|((sent, start), (arrived, _))| (sent ^ arrived, *start))
         .collect()
 }
 
@@ -170,25 +189,26 @@ fn drift(symbol: u16) -> i8 {
 
 /// What demand 3 says: refusal 7 at the first codeword that the test, given its
 /// number and its changed bits, finds lost; else the payload, with a repair for
-/// each codeword that has a changed bit.
-fn demanded(
-    sent: &Sent,
-    arrived: &[u16],
-    lost: impl Fn(usize, u32) -> bool,
-) -> Result<Received, Refusal> {
-    let bits = changed_bits(sent, arrived);
-    match (0..bits.len()).find(|&i| lost(i, bits[i])) {
-        Some(place) => Err(Refusal { number: 7, place }),
-        None => Ok(Received {
-            repairs: bits.iter().filter(|&&bits| bits > 0).count(),
-            ..sent.unharmed(drift(arrived[0]))
-        }),
+/// each codeword that has a changed bit, and one in the symbol that held the bit.
+fn demanded(sent: &Sent, arrived: &[u16], lost: impl Fn(usize, u32) -> bool) -> Answered {
+    let changed = changed_bits(sent, arrived);
+    let (mut received, mut hurts) = sent.unharmed(drift(arrived[0]));
+    for (place, (bits, start)) in changed.into_iter().enumerate() {
+        if lost(place, bits.count_ones()) {
+            return Err(Refusal { number: 7, place });
+        }
+        received.repairs += usize::from(bits != 0);
+        for j in (0..8).filter(|j| bits >> j & 1 == 1) {
+            hurts[start + j] += 1;
+        }
     }
+    Ok((received, hurts))
 }
 
 /// Demand 3, at most one symbol changed in each block: 4/7 and 4/8 return the
 /// payload; 4/5 and 4/6 refuse exactly when a codeword read after block 0 has a
-/// changed bit.
+/// changed bit. The repairs are in the changed symbols alone, as many as codewords
+/// read have a changed bit there.
 #[test]
 fn one_symbol_changed_in_each_block() {
     each_sent(3, |sent, random| {

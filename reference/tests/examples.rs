@@ -35,7 +35,7 @@ fn coded(settings: &Settings, payload: &[u8]) -> Vec<u16> {
 fn read_with_first(symbols: &[u16]) -> Result<Received, Refusal> {
     let mut frame = EMPTY_FRAME;
     frame[..symbols.len()].copy_from_slice(symbols);
-    plain::read(7, false, &frame, &mut [])
+    plain::read(7, false, &frame, &mut [], &mut [0; 8])
 }
 
 fn read(text: &str) -> String {
@@ -55,7 +55,7 @@ fn repairs_with_first(symbol: u16) -> usize {
 fn drift_with_first(read: Read, sf: u8, symbol: u16) -> i8 {
     let mut frame = coded(&Settings { sf, ..EMPTY }, &[]);
     frame[0] = symbol;
-    read(sf, false, &frame, &mut []).unwrap().drift
+    read(sf, false, &frame, &mut [], &mut [0; 8]).unwrap().drift
 }
 
 #[test]
@@ -133,7 +133,7 @@ fn damaged_frames() {
             place: 0
         })
     );
-    let seven = plain::read(7, false, &EMPTY_FRAME[..7], &mut []);
+    let seven = plain::read(7, false, &EMPTY_FRAME[..7], &mut [], &mut []);
     assert_eq!(
         seven,
         Err(Refusal {
@@ -217,7 +217,10 @@ fn refused_settings() {
         assert_eq!(plain::count(&settings, 0), Err(refusal));
         assert_eq!(plain::airtime(&settings, 0, 125, 8), Err(refusal));
         assert_eq!(plain::head(sf, &EMPTY_FRAME), Err(refusal));
-        assert_eq!(plain::read(sf, false, &EMPTY_FRAME, &mut []), Err(refusal));
+        assert_eq!(
+            plain::read(sf, false, &EMPTY_FRAME, &mut [], &mut []),
+            Err(refusal)
+        );
     }
     assert_eq!(plain::count(&LARGEST, 255), Ok(832));
     let short = plain::code(&LARGEST, &[0; 255], &mut [0; 831]);

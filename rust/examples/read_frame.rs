@@ -1,5 +1,5 @@
 //! Codes a frame, spoils one of its symbols as noise may, lets another slip off its
-//! mark, and reads it.
+//! mark, reads it and tells which symbol was hurt.
 
 use chyvandra::{code, read, Refusal, Settings, MOST_BYTES, MOST_SYMBOLS};
 
@@ -21,16 +21,22 @@ fn main() -> Result<(), Refusal> {
     // In the first block one step below what was sent is read as what was sent.
     symbols[0] -= 1;
 
-    let mut payload = [0; MOST_BYTES];
-    let received = read(settings.sf, settings.low, &symbols[..count], &mut payload)?;
+    let (mut payload, mut hurts) = ([0; MOST_BYTES], [0; MOST_SYMBOLS]);
+    let Settings { sf, low, .. } = settings;
+    let received = read(sf, low, &symbols[..count], &mut payload, &mut hurts)?;
     let payload = &payload[..received.header.length];
-    println!(
-        "read {payload:02X?}, repairs {}, drift {}",
+    print!(
+        "read {payload:02X?}, repairs {}, drift {}, hurt",
         received.repairs, received.drift
     );
+    let hurts = hurts[..received.symbols].iter().enumerate();
+    for (symbol, repaired) in hurts.filter(|(_, repaired)| **repaired > 0) {
+        print!(" {symbol}:{repaired}");
+    }
+    println!();
 
     // A frame that is cut short is refused, and the refusal says what is missing.
-    match read(settings.sf, settings.low, &symbols[..12], &mut [0; 6]) {
+    match read(sf, low, &symbols[..12], &mut [0; 6], &mut [0; 24]) {
         Ok(_) => println!("cut short, and read all the same"),
         Err(refusal) => println!("cut short: {refusal}"),
     }

@@ -13,8 +13,9 @@
 //! # Safety
 //!
 //! The same holds for each function: a pointer is aligned, and not null unless
-//! the number is 0; its elements may be read, and those of `out` and `answer`
-//! written, until the call returns; and the lists of one call do not overlap.
+//! the number is 0; its elements may be read, and those of `out`, `hurts` and
+//! `answer` written, until the call returns; and the lists of one call do not
+//! overlap.
 //! All other numbers may be anything. Any number of threads may call at once,
 //! each with lists of its own that no other thread writes.
 
@@ -87,11 +88,12 @@ extern "C" {
         answer_len: usize,
     ) -> u8;
 
-    /// Writes the payload from `out[0]` on and answers length, CR, checksum flag
-    /// (0 or 1), symbols used, codewords repaired and the first symbol's drift in
+    /// Writes the payload from `out[0]` on and the number of repaired bits in each
+    /// symbol used from `hurts[0]` on, and answers length, CR, checksum flag (0 or
+    /// 1), symbols used, codewords repaired and the first symbol's drift in
     /// `answer[0]` to `answer[5]`. The drift, -2 to +1, is `answer[5] as i64`: a
     /// negative number comes back as 2^64 less its size. Checks what head checks,
-    /// then 4, 5, 6, 7, 12.
+    /// then 4 for `out`, 4 for `hurts`, 5, 6, 7, 12.
     pub fn lora_read(
         sf: u8,
         low: u8,
@@ -99,6 +101,8 @@ extern "C" {
         symbols_len: usize,
         out: *mut u8,
         out_len: usize,
+        hurts: *mut u8,
+        hurts_len: usize,
         answer: *mut u64,
         answer_len: usize,
     ) -> u8;

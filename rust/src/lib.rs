@@ -9,9 +9,9 @@
 //! proved to answer what is told here for every input: slices and `Result` here,
 //! pointers and numbers there ([`ffi`]). There is no state and no allocation.
 //!
-//! A refusal hands back its kind and place alone and leaves `out` as it was. An
-//! acceptance writes the first cells of `out`, as many as it answers, and no
-//! other.
+//! A refusal hands back its kind and place alone and leaves every lent list as it
+//! was. An acceptance writes the first cells of a list, as many as it answers, and
+//! no other.
 //!
 //! Symbol numbers count from 0 at the preamble's chirp; a station that counts
 //! from 1 subtracts first. In block 0, and at low rate in every block, only
@@ -29,10 +29,16 @@
 //! let mut symbols = [0; MOST_SYMBOLS];
 //! let count = code(&settings, b"open", &mut symbols)?;
 //!
-//! let mut payload = [0; MOST_BYTES];
-//! let received = read(9, false, &symbols[..count], &mut payload)?;
+//! let (mut payload, mut hurts) = ([0; MOST_BYTES], [0; MOST_SYMBOLS]);
+//! let received = read(9, false, &symbols[..count], &mut payload, &mut hurts)?;
 //! assert_eq!(&payload[..received.header.length], b"open");
 //! assert_eq!((received.repairs, received.drift), (0, 0));
+//!
+//! // A symbol one off, behind the first block: one bit is wrong, and repaired.
+//! symbols[9] ^= 1;
+//! let received = read(9, false, &symbols[..count], &mut payload, &mut hurts)?;
+//! assert_eq!(&payload[..received.header.length], b"open");
+//! assert_eq!((received.repairs, hurts[9]), (1, 1));
 //! # Ok(())
 //! # }
 //! ```
@@ -50,10 +56,10 @@ pub use day::{
 pub use refusal::{Refusal, RefusalKind};
 
 /// The most symbols that a frame can have: so many cells are always enough for
-/// [`code`].
+/// [`code`], and for the hurts that [`read`] fills in.
 pub const MOST_SYMBOLS: usize = 832;
 /// The most bytes that a payload can have: so many cells are always enough for
-/// [`read`].
+/// the payload that [`read`] fills in.
 pub const MOST_BYTES: usize = 255;
 
 /// The sender's settings. Numbers out of range are refused by the operations.
@@ -80,14 +86,15 @@ pub struct Header {
     pub checksum: bool,
 }
 
-/// What reading a frame answers, next to the payload.
+/// What reading a frame answers, next to the payload and the hurts.
 #[derive(Clone, Copy, Debug, PartialEq, Eq, Hash)]
 pub struct Received {
     /// What the header says.
     pub header: Header,
     /// Symbols used: the frame's own.
     pub symbols: usize,
-    /// Codewords repaired, those of the header among them, fillers not.
+    /// Codewords repaired, those of the header among them, fillers not. Each is
+    /// repaired in one bit, so this is the sum of the hurts.
     pub repairs: usize,
     /// The first symbol's drift, -2 to +1: its signed distance, round the circle
     /// of 2^SF numbers, from its mark, the multiple of 4 that it was read as.
@@ -103,8 +110,8 @@ pub struct Received {
 /// [`RefusalKind::TooLong`], [`RefusalKind::OutShort`].
 pub fn code(settings: &Settings, payload: &[u8], out: &mut [u16]) -> Result<usize, Refusal> {
     let mut answer = [0; ffi::NUMBER_CELLS];
-    // SAFETY: each pointer and length is those of one live slice, and the three
-    // slices don't overlap.
+    // SAFETY: each pointer and length is those of one live slice, and the slices
+    // don't overlap.
     let number = unsafe {
         ffi::lora_code(
             settings.sf,
@@ -123,7 +130,8 @@ pub fn code(settings: &Settings, payload: &[u8], out: &mut [u16]) -> Result<usiz
 }
 
 /// Reads the frame at the front of `symbols`: writes its payload to `out`, from
-/// `out[0]` on, and answers what the header says, how many symbols were the
+/// `out[0]` on, and how many repaired bits stood in each of its symbols to `hurts`,
+/// from `hurts[0]` on; answers what the header says, how many symbols were the
 /// frame's own, how many codewords were repaired and how far the first symbol was
 /// from its mark. Symbols after the frame's own are ignored.
 ///
@@ -137,11 +145,19 @@ pub fn code(settings: &Settings, payload: &[u8], out: &mut [u16]) -> Result<usiz
 ///
 /// # Errors
 ///
-/// Those of [`head`]; then, in this order, [`RefusalKind::OutShort`],
-/// [`RefusalKind::FewSymbols`] for the whole frame, [`RefusalKind::SymbolOver`]
-/// over the rest, [`RefusalKind::Unreadable`] over data codewords in frame
-/// order, [`RefusalKind::Checksum`].
-pub fn read(sf: u8, low: bool, symbols: &[u16], out: &mut [u8]) -> Result<Received, Refusal> {
+/// Those of [`head`]; then, in this order, [`RefusalKind::OutShort`] for `out`,
+/// which needs a cell for each byte; [`RefusalKind::OutShort`] for `hurts`, which
+/// needs one for each symbol of the frame; [`RefusalKind::FewSymbols`] for the
+/// whole frame, [`RefusalKind::SymbolOver`] over the rest,
+/// [`RefusalKind::Unreadable`] over data codewords in frame order,
+/// [`RefusalKind::Checksum`].
+pub fn read(
+    sf: u8,
+    low: bool,
+    symbols: &[u16],
+    out: &mut [u8],
+    hurts: &mut [u8],
+) -> Result<Received, Refusal> {
     let mut answer = [0; ffi::READ_CELLS];
     // SAFETY: as in `code`.
     let number = unsafe {
@@ -152,6 +168,8 @@ pub fn read(sf: u8, low: bool, symbols: &[u16], out: &mut [u8]) -> Result<Receiv
             symbols.len(),
             out.as_mut_ptr(),
             out.len(),
+            hurts.as_mut_ptr(),
+            hurts.len(),
             answer.as_mut_ptr(),
             answer.len(),
         )

@@ -25,16 +25,15 @@ fn main() {
     let mut symbols = vec![0; MOST_SYMBOLS];
     let count = plain::code(&settings, &payload, &mut symbols).unwrap();
     let frame = symbols[..count].to_vec();
-    let mut bytes = [0; MOST_BYTES];
+    let (mut bytes, mut hurts) = ([0; MOST_BYTES], [0; MOST_SYMBOLS]);
     for _ in 0..times {
         match operation.as_str() {
             "code" => {
                 black_box(product::code(&settings, &payload, black_box(&mut symbols)).unwrap());
             }
             "read" => {
-                black_box(
-                    product::read(settings.sf, false, &frame, black_box(&mut bytes)).unwrap(),
-                );
+                let (bytes, hurts) = black_box((&mut bytes, &mut hurts));
+                black_box(product::read(settings.sf, false, &frame, bytes, hurts).unwrap());
             }
             _ => panic!("profile code|read SF CR BYTES TIMES"),
         }

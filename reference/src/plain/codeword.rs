@@ -16,19 +16,21 @@ pub fn codeword(nibble: u8, cr: u8) -> u8 {
     nibble | parity << 4
 }
 
-/// A nibble read from a word, and whether the word had to be repaired.
+/// A nibble read from a word, and the bit of the word that had to be repaired, if
+/// one had (document 02, Ask 3).
+#[derive(Clone, Copy, Debug, PartialEq, Eq)]
 pub struct Taken {
     pub nibble: u8,
-    pub repaired: bool,
+    pub repaired: Option<usize>,
 }
 
 /// The nibble of a word, if the word can be read at this rate.
 pub fn take(word: u8, cr: u8) -> Option<Taken> {
-    let reach = if cr >= 3 { 1 } else { 0 };
+    let most_wrong = if cr >= 3 { 1 } else { 0 };
     for nibble in 0..16 {
-        let distance = (word ^ codeword(nibble, cr)).count_ones();
-        if distance <= reach {
-            let repaired = distance == 1;
+        let wrong = word ^ codeword(nibble, cr);
+        if wrong.count_ones() <= most_wrong {
+            let repaired = (0..8).find(|bit| wrong >> bit & 1 == 1);
             return Some(Taken { nibble, repaired });
         }
     }
@@ -47,6 +49,30 @@ mod tests {
                 for b in 0..a {
                     let distance = (codeword(a, cr) ^ codeword(b, cr)).count_ones();
                     assert!(distance >= least, "CR {cr}: {a} and {b}");
+                }
+            }
+        }
+    }
+
+    /// Any bit of any codeword turned is named where the rate repairs, and makes
+    /// the word unreadable where it does not.
+    #[test]
+    fn a_turned_bit_is_named() {
+        for cr in 1..=4 {
+            for nibble in 0..16 {
+                let sent = codeword(nibble, cr);
+                let unharmed = Taken {
+                    nibble,
+                    repaired: None,
+                };
+                assert_eq!(take(sent, cr), Some(unharmed));
+                for bit in 0..usize::from(cr) + 4 {
+                    let repaired = Some(Taken {
+                        nibble,
+                        repaired: Some(bit),
+                    });
+                    let wanted = if cr >= 3 { repaired } else { None };
+                    assert_eq!(take(sent ^ 1 << bit, cr), wanted, "CR {cr}, bit {bit}");
                 }
             }
         }

@@ -10,6 +10,7 @@ pub mod header;
 use crate::types::{refuse, Header, Received, Refusal, Settings};
 use crate::MOST_BYTES;
 use block::Block;
+use codeword::Taken;
 use std::ops::Range;
 
 /// Codewords of the header, at the front of block 0.
@@ -35,11 +36,18 @@ pub fn code(settings: &Settings, payload: &[u8], out: &mut [u16]) -> Result<usiz
     Ok(needed)
 }
 
-/// The payload of the symbols, into `out`.
-pub fn read(sf: u8, low: bool, symbols: &[u16], out: &mut [u8]) -> Result<Received, Refusal> {
+/// The payload of the symbols, into `out`, and the number of repaired bits in each
+/// symbol of the frame, into `hurts`.
+pub fn read(
+    sf: u8,
+    low: bool,
+    symbols: &[u16],
+    out: &mut [u8],
+    hurts: &mut [u8],
+) -> Result<Received, Refusal> {
     let FirstBlock {
         header,
-        mut repairs,
+        mut hurt,
         data_words: mut words,
     } = first_block(sf, symbols)?;
     let Header {
@@ -59,25 +67,23 @@ pub fn read(sf: u8, low: bool, symbols: &[u16], out: &mut [u8]) -> Result<Receiv
         },
         length,
     );
+    if hurts.len() < needed {
+        return refuse(4, needed);
+    }
     if symbols.len() < needed {
         return refuse(5, needed);
     }
     check_range(sf, symbols, FIRST_SYMBOLS..needed)?;
 
-    let in_first = words.len();
     let later = Block::later(sf, low, cr);
-    for block_symbols in symbols[FIRST_SYMBOLS..needed].chunks(later.width()) {
-        words.extend(later.words(block_symbols));
+    for start in (FIRST_SYMBOLS..needed).step_by(later.width()) {
+        words.extend(words_at(start, &later, symbols));
     }
     let mut nibbles = Vec::new();
     // Stops before the fillers, which may be anything.
-    for (i, &word) in words.iter().take(data_count(checksum, length)).enumerate() {
-        let rate = if i < in_first { 4 } else { cr };
-        match codeword::take(word, rate) {
-            Some(taken) => {
-                nibbles.push(taken.nibble);
-                repairs += usize::from(taken.repaired);
-            }
+    for (i, word) in words.iter().take(data_count(checksum, length)).enumerate() {
+        match word.read(&mut hurt) {
+            Some(nibble) => nibbles.push(nibble),
             None => return refuse(7, HEADER_CODEWORDS + i),
         }
     }
@@ -91,10 +97,14 @@ pub fn read(sf: u8, low: bool, symbols: &[u16], out: &mut [u8]) -> Result<Receiv
         return refuse(12, 0);
     }
     out[..length].copy_from_slice(&payload);
+    hurts[..needed].fill(0);
+    for &symbol in &hurt {
+        hurts[symbol] += 1;
+    }
     Ok(Received {
         header,
         symbols: needed,
-        repairs,
+        repairs: hurt.len(),
         drift: Block::first(sf).drift(symbols[0]),
     })
 }
@@ -161,12 +171,41 @@ pub fn data_nibbles(checksum: bool, payload: &[u8]) -> Vec<u8> {
         .collect()
 }
 
+/// A word that the symbols of a block carry, not read yet.
+struct Word {
+    bits: u8,
+    cr: u8,
+    /// The symbol that its bit 0 stands in, the block's first. Bit j stands in the
+    /// j-th behind it.
+    start: usize,
+}
+
+impl Word {
+    /// The nibble, if the word can be read; the symbol of a repaired bit goes to
+    /// `hurt`.
+    fn read(&self, hurt: &mut Vec<usize>) -> Option<u8> {
+        let Taken { nibble, repaired } = codeword::take(self.bits, self.cr)?;
+        hurt.extend(repaired.map(|bit| self.start + bit));
+        Some(nibble)
+    }
+}
+
+/// The words of the block that starts with this symbol.
+fn words_at(start: usize, block: &Block, symbols: &[u16]) -> Vec<Word> {
+    let cr = block.cr;
+    block
+        .words(&symbols[start..start + block.width()])
+        .into_iter()
+        .map(|bits| Word { bits, cr, start })
+        .collect()
+}
+
 struct FirstBlock {
     header: Header,
-    /// Repairs among the header's codewords.
-    repairs: usize,
-    /// The block's words behind the header, not read yet.
-    data_words: Vec<u8>,
+    /// The symbol of each repaired bit of the header's codewords.
+    hurt: Vec<usize>,
+    /// The block's words behind the header.
+    data_words: Vec<Word>,
 }
 
 fn first_block(sf: u8, symbols: &[u16]) -> Result<FirstBlock, Refusal> {
@@ -175,23 +214,21 @@ fn first_block(sf: u8, symbols: &[u16]) -> Result<FirstBlock, Refusal> {
         return refuse(5, FIRST_SYMBOLS);
     }
     check_range(sf, symbols, 0..FIRST_SYMBOLS)?;
-    let words = Block::first(sf).words(&symbols[..FIRST_SYMBOLS]);
+    let mut words = words_at(0, &Block::first(sf), symbols);
+    let data_words = words.split_off(HEADER_CODEWORDS);
     let mut nibbles = [0; HEADER_CODEWORDS];
-    let mut repairs = 0;
-    for i in 0..HEADER_CODEWORDS {
-        match codeword::take(words[i], 4) {
-            Some(taken) => {
-                nibbles[i] = taken.nibble;
-                repairs += usize::from(taken.repaired);
-            }
+    let mut hurt = Vec::new();
+    for (i, word) in words.iter().enumerate() {
+        match word.read(&mut hurt) {
+            Some(nibble) => nibbles[i] = nibble,
             None => return refuse(7, i),
         }
     }
     let header = header::header(nibbles)?;
     Ok(FirstBlock {
         header,
-        repairs,
-        data_words: words[HEADER_CODEWORDS..].to_vec(),
+        hurt,
+        data_words,
     })
 }
 

@@ -2,8 +2,7 @@
 
 use crate::MOST_BYTES;
 
-/// Marks in `READING`, above the nibble.
-pub const REPAIRED: u8 = 0x10;
+/// In `READING` for a word that can't be read; all others are nibbles.
 pub const UNREADABLE: u8 = 0x80;
 
 /// Codewords by CR - 1 and nibble.
@@ -12,6 +11,8 @@ const CODEWORDS: [[u8; 16]; 4] = codewords();
 pub const SPREAD: [[u128; 16]; 4] = spread();
 /// What a word reads as, by CR - 1.
 pub const READING: [[u8; 256]; 4] = reading();
+/// A one in byte j where bit j of a word has to be repaired, by CR - 1.
+pub const HURTS: [[u64; 256]; 4] = hurts();
 pub const WHITENING: [u8; MOST_BYTES] = whitening();
 /// Remainders of t * x^16.
 pub const REMAINDERS: [u16; 256] = remainders();
@@ -62,10 +63,22 @@ const fn reading() -> [[u8; 256]; 4] {
     while at < 4 * 256 * 16 {
         let (rate, word, nibble) = (at / 4096, at / 16 % 256, at % 16);
         let distance = (CODEWORDS[rate][nibble] ^ word as u8).count_ones();
-        if distance == 0 {
+        if distance == 0 || distance == 1 && rate >= 2 {
             table[rate][word] = nibble as u8;
-        } else if distance == 1 && rate >= 2 {
-            table[rate][word] = nibble as u8 | REPAIRED;
+        }
+        at += 1;
+    }
+    table
+}
+
+const fn hurts() -> [[u64; 256]; 4] {
+    let mut table = [[0; 256]; 4];
+    let mut at = 2 * 16 * 8;
+    while at < 4 * 16 * 8 {
+        let (rate, nibble, bit) = (at / 128, at / 8 % 16, at % 8);
+        // A word at 4/7 has no bit 7.
+        if bit < rate + 5 {
+            table[rate][(CODEWORDS[rate][nibble] ^ 1 << bit) as usize] = 1 << (8 * bit);
         }
         at += 1;
     }

@@ -81,7 +81,7 @@ impl Trial {
     fn seconds(&self, implementation: &Implementation, operation: Operation) -> f64 {
         let Settings { sf, low, .. } = self.settings;
         let mut symbols = [0; MOST_SYMBOLS];
-        let mut bytes = [0; MOST_BYTES];
+        let (mut bytes, mut hurts) = ([0; MOST_BYTES], [0; MOST_SYMBOLS]);
         match operation {
             Operation::Code => best(|| {
                 let answer = (implementation.code)(
@@ -97,6 +97,7 @@ impl Trial {
                     black_box(low),
                     black_box(&self.symbols),
                     black_box(&mut bytes),
+                    black_box(&mut hurts),
                 );
                 black_box(answer).expect("a good frame");
             }),

@@ -1,6 +1,6 @@
 //! One input to one of the five operations.
 
-use reference::cases;
+use reference::cases::{self, hurts};
 use reference::plain;
 use reference::random::Random;
 use reference::types::Settings;
@@ -30,6 +30,8 @@ pub struct Case {
     pub symbols: Vec<u16>,
     /// Cells lent for symbols or bytes.
     pub out_len: usize,
+    /// Cells lent for the hurts of symbols.
+    pub hurts_len: usize,
     pub answer_len: usize,
 }
 
@@ -40,7 +42,7 @@ impl Case {
         let mut settings = cases::settings(random.below(cases::SETTINGS));
         let mut payload = Vec::new();
         let mut symbols = Vec::new();
-        let mut out_len = 0;
+        let (mut out_len, mut hurts_len) = (0, 0);
         match operation {
             Code => {
                 payload = cases::payload(random);
@@ -52,14 +54,20 @@ impl Case {
                 out_len = cells_around(needed, random);
             }
             Read | Head => {
-                let kind = random.pick(&cases::KINDS);
-                let frame = cases::frame(kind, &settings, random);
+                let frame = frame(&settings, random);
                 (settings.sf, settings.low) = (frame.sf, frame.low);
                 symbols = frame.symbols;
+                // The frame may be cut, and followed by others.
+                let needed = plain::count(&settings, frame.length).unwrap();
                 if random.once_in(16) {
                     symbols.truncate(random.below(12));
                 }
                 out_len = cells_around(frame.length, random);
+                hurts_len = if random.flag() {
+                    MOST_SYMBOLS
+                } else {
+                    cells_around(needed, random)
+                };
             }
             Count | Airtime => {}
         }
@@ -79,6 +87,7 @@ impl Case {
             payload,
             symbols,
             out_len,
+            hurts_len,
             answer_len: if random.once_in(4) {
                 random.below(9)
             } else {
@@ -86,6 +95,17 @@ impl Case {
             },
         }
     }
+}
+
+/// A frame of any kind, every third one hurt so that it can be read.
+fn frame(settings: &Settings, random: &mut Random) -> cases::Frame {
+    if random.once_in(3) {
+        let payload = cases::payload(random);
+        let ways = random.pick(&hurts::WAYS);
+        return hurts::frame(settings, payload, ways, random).frame;
+    }
+    let kind = random.pick(&cases::KINDS);
+    cases::frame(kind, settings, random)
 }
 
 /// Takes SF and CR out of range at times.

@@ -7,12 +7,13 @@ use reference::random::Random;
 use reference::types::{Code, Header, Read, Refusal, Settings};
 use reference::{plain, product};
 
-/// The three arrays an operation may write to, margins included.
+/// The four arrays an operation may write to, margins included.
 #[derive(Clone, Debug, PartialEq)]
 struct Cells {
     answer: Vec<u64>,
     symbols: Vec<u16>,
     bytes: Vec<u8>,
+    hurts: Vec<u8>,
 }
 
 impl Cells {
@@ -22,6 +23,7 @@ impl Cells {
             answer: with_margins(case.answer_len, || random.number()),
             symbols: with_margins(case.out_len, || random.number() as u16),
             bytes: with_margins(case.out_len, || random.byte()),
+            hurts: with_margins(case.hurts_len, || random.byte()),
         }
     }
 }
@@ -96,6 +98,7 @@ fn told(operations: &Operations, case: &Case, mut cells: Cells) -> (u8, Cells) {
             settings.low,
             &case.symbols,
             lent(&mut cells.bytes),
+            lent(&mut cells.hurts),
         )
         .map(|received| {
             let mut fields = header_fields(&received.header);
@@ -142,6 +145,8 @@ fn bare(case: &Case, mut cells: Cells) -> (u8, Cells) {
     let (out, out_len) = (pointer_mut(out), out.len());
     let bytes = lent(&mut cells.bytes);
     let (bytes, bytes_len) = (pointer_mut(bytes), bytes.len());
+    let hurts = lent(&mut cells.hurts);
+    let (hurts, hurts_len) = (pointer_mut(hurts), hurts.len());
     let answer = lent(&mut cells.answer);
     let (answer, answer_len) = (pointer_mut(answer), answer.len());
     let (payload, payload_len) = (pointer(payload), payload.len());
@@ -169,6 +174,8 @@ fn bare(case: &Case, mut cells: Cells) -> (u8, Cells) {
                 symbols_len,
                 bytes,
                 bytes_len,
+                hurts,
+                hurts_len,
                 answer,
                 answer_len,
             ),

@@ -23,8 +23,8 @@ impl Sent {
 
     /// What comes of reading these symbols for the sent ones.
     pub fn read_as(&self, sf: u8, low: bool, symbols: &[u16]) -> Outcome {
-        let mut out = [0; MOST_BYTES];
-        match product::read(sf, low, symbols, &mut out) {
+        let (mut out, mut hurts) = ([0; MOST_BYTES], [0; MOST_SYMBOLS]);
+        match product::read(sf, low, symbols, &mut out, &mut hurts) {
             Err(_) => Outcome::Refused,
             Ok(received) if out[..received.header.length] == self.payload => Outcome::Right,
             Ok(received) => Outcome::Wrong {

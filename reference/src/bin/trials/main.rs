@@ -1,7 +1,7 @@
 //! Writes what goes into a program and what must come out of it.
 //!
-//! `trials frames|wishes SEED LINES INPUT OUTPUT`: lines for the reading program
-//! or the coding program.
+//! `trials frames|hurts|wishes SEED LINES INPUT OUTPUT`: lines for the reading
+//! program, the program that tells which symbols were hurt, or the coding program.
 //! `trials keep SEED LINES INPUT OUTPUT ERRORS`: captures for the program that
 //! keeps a day, its file and its standard error.
 //! `trials show INPUT OUTPUT`: a file for the program that shows a day.
@@ -10,6 +10,7 @@
 
 mod files;
 mod frames;
+mod hurts;
 mod spelling;
 mod tally;
 mod wishes;
@@ -18,7 +19,7 @@ use files::{every_end, Files};
 use reference::cases::days::{all_settings, file_of};
 use reference::plain::day;
 use reference::random::Random;
-use reference::{cases, keep, show, text, wish};
+use reference::{cases, hurt, keep, show, text, wish};
 use std::process::ExitCode;
 use std::{env, fs};
 use tally::{Outcome, Tally};
@@ -27,12 +28,16 @@ fn main() -> ExitCode {
     let words: Vec<String> = env::args().skip(1).collect();
     let words: Vec<&str> = words.iter().map(String::as_str).collect();
     let missing = match words[..] {
-        [name @ ("frames" | "wishes"), seed, lines, input, output] => {
+        [name @ ("frames" | "hurts" | "wishes"), seed, lines, input, output] => {
             let (Ok(seed), Ok(lines)) = (seed.parse(), lines.parse()) else {
                 return usage();
             };
             println!("{name}, seed {seed}, lines {lines}");
-            let trial = if name == "frames" { FRAMES } else { WISHES };
+            let trial = match name {
+                "frames" => FRAMES,
+                "hurts" => HURTS,
+                _ => WISHES,
+            };
             answered_lines(&trial, Random::new(seed), lines, input, output)
         }
         ["keep", seed, lines, input, output, errors] => {
@@ -75,18 +80,28 @@ struct Trial {
     /// a good one, so that the file does not end in an empty line.
     text: fn(line: usize, last: bool, &mut Random) -> Vec<u8>,
     answer_line: fn(&[u8]) -> Vec<u8>,
+    outcomes: fn(&[u8]) -> Vec<Outcome>,
     wanted: &'static [Outcome],
 }
 
 const FRAMES: Trial = Trial {
     text: frames::text,
     answer_line: text::answer_line,
+    outcomes: tally::outcomes,
     wanted: &frames::WANTED,
+};
+
+const HURTS: Trial = Trial {
+    text: hurts::text,
+    answer_line: hurt::answer_line,
+    outcomes: hurts::outcomes,
+    wanted: &hurts::WANTED,
 };
 
 const WISHES: Trial = Trial {
     text: wishes::text,
     answer_line: wish::answer_line,
+    outcomes: tally::outcomes,
     wanted: &wishes::WANTED,
 };
 
@@ -104,7 +119,7 @@ fn answered_lines(
         let text = (trial.text)(line, line + 1 == lines, &mut random);
         assert!(!text.contains(&b'\n'), "line {line} would be two");
         let answer = (trial.answer_line)(&text);
-        tally.add(&answer);
+        tally.add(&(trial.outcomes)(&answer));
         texts.extend(text);
         texts.push(b'\n');
         answers.extend(answer);
@@ -130,7 +145,7 @@ fn kept_day(
         // The settings come in no order, so that theirs in the file shows.
         let settings = random.below(cases::SETTINGS);
         let text = frames::text(settings, line + 1 == lines, &mut random);
-        tally.add(&text::answer_line(&text));
+        tally.add(&tally::outcomes(&text::answer_line(&text)));
         texts.push(text);
     }
     // The last line has no end.
@@ -159,7 +174,7 @@ fn write(path: &str, content: &[u8]) {
 }
 
 fn usage() -> ExitCode {
-    eprintln!("usage: trials frames|wishes SEED LINES INPUT OUTPUT");
+    eprintln!("usage: trials frames|hurts|wishes SEED LINES INPUT OUTPUT");
     eprintln!("       trials keep SEED LINES INPUT OUTPUT ERRORS");
     eprintln!("       trials show INPUT OUTPUT");
     eprintln!("       trials files SEED INPUT OUTPUT");

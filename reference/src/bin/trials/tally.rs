@@ -9,6 +9,8 @@ pub enum Outcome {
     Accepted,
     /// Read, with repairs.
     Repaired,
+    /// Where the repairs were.
+    Hurt(&'static str),
 }
 
 impl fmt::Display for Outcome {
@@ -17,6 +19,7 @@ impl fmt::Display for Outcome {
             Outcome::Refused(number) => write!(f, "refusal {number}"),
             Outcome::Accepted => write!(f, "acceptance"),
             Outcome::Repaired => write!(f, "acceptance with repairs"),
+            Outcome::Hurt(what) => write!(f, "{what}"),
         }
     }
 }
@@ -25,8 +28,10 @@ impl fmt::Display for Outcome {
 pub struct Tally(BTreeMap<Outcome, usize>);
 
 impl Tally {
-    pub fn add(&mut self, answer: &[u8]) {
-        *self.0.entry(outcome(answer)).or_default() += 1;
+    pub fn add(&mut self, outcomes: &[Outcome]) {
+        for outcome in outcomes {
+            *self.0.entry(*outcome).or_default() += 1;
+        }
     }
 
     pub fn print(&self) {
@@ -44,13 +49,13 @@ impl Tally {
     }
 }
 
-/// What an answer's line says.
-fn outcome(answer: &[u8]) -> Outcome {
+/// What an answer's line of the reading or the coding program says.
+pub fn outcomes(answer: &[u8]) -> Vec<Outcome> {
     let line = String::from_utf8_lossy(answer);
     let fields: Vec<&str> = line.split_ascii_whitespace().collect();
-    match fields[..] {
+    vec![match fields[..] {
         ["no", number, _] => Outcome::Refused(number.parse().unwrap()),
         ["ok", _, _, _, _, repairs, _] if repairs != "0" => Outcome::Repaired,
         _ => Outcome::Accepted,
-    }
+    }]
 }
