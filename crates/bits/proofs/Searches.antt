@@ -1,7 +1,7 @@
 -- Laws of searches and counts.
 -- Assumes nothing.
 use mathlib.Core.Path.{_≡_, refl, sym, ap, _∙_}
-use mathlib.Core.Bool.{Bool, true, false, cond}
+use mathlib.Core.Bool.{Bool, true, false, not, cond}
 use Prim.Native.Nat.{ℕ, zero, suc, _+_, _-_, _<_, _≤_}
 use native.Mathlib.Nat.{add-zero, add-suc}
 use native.Mathlib.Numerals.{add-one}
@@ -134,6 +134,16 @@ module _ (p : ℕ → Bool) where
       at false e =
           let behind : n ≤ first p n 0 = ltb-false (first p n 0) n e in
           absurd (omega (arith, howMany-none n (λ k l. first-before p n 0 k (omega arith) (omega arith))))
+
+-- the test holds at a place or it does not
+pub howMany-rest : (p : ℕ → Bool) (n : ℕ) → howMany (λ i. not (p i)) n + howMany p n ≡ n
+unfolding howMany
+howMany-rest p zero = refl
+howMany-rest p (suc n) = by (p n) (howMany-rest p n)
+  where
+    by : (b : Bool) → howMany (λ i. not (p i)) n + howMany p n ≡ n → howMany (λ i. not (p i)) n + asBit (not b) + (howMany p n + asBit b) ≡ suc n
+    by true e = omega arith
+    by false e = omega arith
 
 pub howMany-cong : (p q : ℕ → Bool) (n : ℕ) → ((k : ℕ) → k < n → p k ≡ q k) → howMany p n ≡ howMany q n
 unfolding howMany

@@ -4,8 +4,7 @@ use mathlib.Core.Path.{_≡_, refl, ap, ap₂}
 use mathlib.Core.Bool.{Bool, true, false, _&&_}
 use lib.Dec.{T, eqb, eqb→eq}
 use Rattle.bits.proofs.Every.{and-left, and-right}
-use Rattle.codeword.specs.declared.Found.{Found}
-use Rattle.codeword.specs.declared.Found.the-variants.{Taken, Repaired, Unreadable}
+use Rattle.codeword.specs.Found.{Found, Taken, Repaired, Unreadable}
 
 unfoldable pub alike : Found → Found → Bool
 alike (Taken m) (Taken n) = eqb m n

@@ -5,16 +5,15 @@ use mathlib.Core.Bool.{Bool, true, false, not, _&&_, cond, false≢true}
 use Prim.Native.Nat.{ℕ, zero, suc, _+_, _-_, _^_, _≤_, _<_}
 use native.Mathlib.Omega.{arith}
 use lib.Dec.{eqb, leb, ltb, ltb→lt}
-use borrow.Author.Tests.{ltb-true, le-leb, lt-leb, eqb-true, eq-eqb, not-false}
+use borrow.Author.Tests.{ltb-true, le-leb, lt-leb, eqb-true, eq-eqb, ne-eqb, not-false}
 use Rattle.bits.specs.Bit.{bit}
 use Rattle.bits.specs.Search.{first}
 use Rattle.bits.proofs.Every.{and-left, and-right}
 use Rattle.bits.proofs.Bits.{bit-lt, bit-number, number-lt, same-bits}
 use Rattle.bits.proofs.Searches.{first-found, howMany-zero}
-use Rattle.codeword.specs.Codeword.{parity, parityOfAll, parityBit, codewordBit, codeword, apart, flipped, bitTo, readAs, nibbleOf, flippedBit, isRepaired}
+use Rattle.codeword.specs.Codeword.{parity, parityOfAll, parityBit, codewordBit, codeword, apart, flipped, bitTo, readAs, nibbleOf, flippedBit, isRepaired, isUnreadable}
 use Rattle.codeword.specs.Ranges.{Rate}
-use Rattle.codeword.specs.declared.Found.{Found}
-use Rattle.codeword.specs.declared.Found.the-variants.{Taken, Repaired, Unreadable}
+use Rattle.codeword.specs.Found.{Found, Taken, Repaired, Unreadable}
 use Rattle.codeword.proofs.Alike.{alike→eq}
 use Rattle.codeword.proofs.EveryWord.{told, by-distance}
 
@@ -133,7 +132,7 @@ module _ (cr w : ℕ) (rate : Rate cr) (word : w < 2 ^ (4 + cr)) where
       let (nibble, one, is) = subst (Near cr w) e (near cr w) in
       rw is (flip-found cr w d rate word nibble one)
 
-  -- the bit is one of the word's where there is one, and 8 where there is none
+  -- the bit is one of the word's where there is one; 8 where the word is a codeword
   pub flipped-lt : isRepaired (readAs cr w) ≡ true → flippedBit (readAs cr w) < 4 + cr
   flipped-lt = of (readAs cr w) refl
     where
@@ -142,10 +141,19 @@ module _ (cr w : ℕ) (rate : Rate cr) (word : w < 2 ^ (4 + cr)) where
       of (Repaired d j) e h = repaired-by d j e .0
       of Unreadable e h = absurd (false≢true h)
 
-  pub flipped-le : flippedBit (readAs cr w) ≤ 8
+  pub flipped-le : isUnreadable (readAs cr w) ≡ false → flippedBit (readAs cr w) ≤ 8
   flipped-le = of (readAs cr w) refl
     where
-      of : (f : Found) → readAs cr w ≡ f → flippedBit f ≤ 8
-      of (Taken d) e = omega arith
-      of (Repaired d j) e = omega (arith, repaired-by d j e .0, rate .high)
-      of Unreadable e = omega arith
+      of : (f : Found) → readAs cr w ≡ f → isUnreadable f ≡ false → flippedBit f ≤ 8
+      of (Taken d) e h = omega arith
+      of (Repaired d j) e h = omega (arith, repaired-by d j e .0, rate .high)
+      of Unreadable e h = absurd (false≢true (sym h))
+
+  -- a word that can be read is repaired exactly where a bit was flipped
+  pub repaired-where : isUnreadable (readAs cr w) ≡ false → isRepaired (readAs cr w) ≡ not (eqb (flippedBit (readAs cr w)) 8)
+  repaired-where = of (readAs cr w) refl
+    where
+      of : (f : Found) → readAs cr w ≡ f → isUnreadable f ≡ false → isRepaired f ≡ not (eqb (flippedBit f) 8)
+      of (Taken d) e h = refl
+      of (Repaired d j) e h = sym (ap not (ne-eqb j 8 (λ q. omega (arith, repaired-by d j e .0, rate .high))))
+      of Unreadable e h = absurd (false≢true (sym h))

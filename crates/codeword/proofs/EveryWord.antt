@@ -10,8 +10,7 @@ use Rattle.bits.specs.Search.{first, howMany}
 use Rattle.bits.proofs.Every.{every, at}
 use Rattle.codeword.specs.Codeword.{parity, parityOfAll, parityBit, codewordBit, codeword, apart, flipped, bitTo, readAs}
 use Rattle.codeword.specs.Ranges.{Rate}
-use Rattle.codeword.specs.declared.Found.{Found}
-use Rattle.codeword.specs.declared.Found.the-variants.{Taken, Repaired, Unreadable}
+use Rattle.codeword.specs.Found.{Found, Taken, Repaired, Unreadable}
 use Rattle.codeword.proofs.Alike.{alike}
 
 -- what a word at this distance from the codeword of d is read as; one bit away, there is a bit that makes it that codeword

@@ -1,20 +1,19 @@
 -- Where a word stands in the table of readings, and what it is read as there.
 -- Assumes nothing.
-use mathlib.Core.Path.{_≡_, refl, ap, ap₂, _∙_}
-use mathlib.Core.Bool.{true}
+use mathlib.Core.Path.{_≡_, refl, ap, _∙_}
+use mathlib.Core.Bool.{false}
 use mathlib.Core.List.{List}
-use Prim.Native.Nat.{ℕ, zero, suc, _+_, _-_, _/_, _%_, _^_, _≤_, _<_}
+use Prim.Native.Nat.{ℕ, zero, suc, _+_, _-_, _^_, _≤_, _<_}
 use native.Mathlib.Nat.{pow-le-pow-right}
 use native.Mathlib.Omega.{arith}
-use borrow.Author.Tests.{lt-ltb, le-ltb}
+use borrow.Author.Tests.{lt-ltb, le-ltb, lt-leb, le-leb}
 use lib.ListN.{getD}
 use Rattle.bits.proofs.Tabs.{getD-tab}
-use Rattle.codeword.specs.Codeword.{readAs, nibbleOf, flippedBit, isRepaired}
+use Rattle.codeword.specs.Codeword.{readAs, nibbleOf, flippedBit, isUnreadable}
 use Rattle.codeword.specs.Ranges.{Rate}
-use Rattle.codeword.specs.Readings.{numberOfFound, readingOf, readingAt, readingTable}
-use Rattle.codeword.specs.declared.Found.{Found}
-use Rattle.codeword.specs.declared.Found.the-variants.{Taken, Repaired, Unreadable}
-use Rattle.codeword.proofs.CodeLaws.{nibble-lt, flipped-lt}
+use Rattle.codeword.specs.Readings.{nibbleIn, bitIn, noneIn, readingOf, readingAt, readingTable}
+use Rattle.codeword.specs.Found.{Found, Taken, Repaired, Unreadable}
+use Rattle.codeword.proofs.CodeLaws.{nibble-lt, flipped-le}
 
 -- the place of a word in the table
 unfoldable pub placeOf : ℕ → ℕ → ℕ
@@ -50,24 +49,18 @@ module _ {cr w k : ℕ} (rate : Rate cr) (word : w < 2 ^ (4 + cr)) (at : k ≡ p
   unfolding readingTable
   entry-is {table} t = ap (λ (l : List ℕ). getD l k 0) t ∙ getD-tab 480 readingAt k 0 place-lt ∙ reading-at cr w k rate word behind .0
 
--- what a number is the reading of
-module _ (cr w : ℕ) (rate : Rate cr) (word : w < 2 ^ (4 + cr)) {e : ℕ} (entry : e ≡ readingOf cr w) where
-  by-number : (f : Found) → nibbleOf f < 16 → (isRepaired f ≡ true → flippedBit f < 8) → e ≡ numberOfFound f
-      → (e < 128 → Repaired (e % 16) (e / 16) ≡ f) × (128 ≤ e → e < 144 → Taken (e % 16) ≡ f) × (144 ≤ e → Unreadable ≡ f)
-  by-number (Taken d) l b p = (λ h. absurd (omega arith), λ h i. ap Taken (omega arith), λ h. absurd (omega arith))
-  by-number (Repaired d j) l b p =
-      let s : j < 8 = b refl in
-      (λ h. ap₂ Repaired (omega arith) (omega arith), λ h i. absurd (omega arith), λ h. absurd (omega arith))
-  by-number Unreadable l b p = (λ h. absurd (omega arith), λ h i. absurd (omega arith), λ h. refl)
+-- what the byte of a reading tells
+module _ (cr w : ℕ) {e : ℕ} (entry : e ≡ readingOf cr w) where
+  pub nibble-is : nibbleIn e ≡ nibbleOf (readAs cr w)
+  nibble-is = omega (arith, entry, nibble-lt cr w)
 
-  by-entry : (e < 128 → Repaired (e % 16) (e / 16) ≡ readAs cr w) × (128 ≤ e → e < 144 → Taken (e % 16) ≡ readAs cr w) × (144 ≤ e → Unreadable ≡ readAs cr w)
-  by-entry = by-number (readAs cr w) (nibble-lt cr w) (λ h. omega (arith, flipped-lt cr w rate word h, rate .high)) entry
+  pub bit-is : bitIn e ≡ flippedBit (readAs cr w)
+  bit-is = omega (arith, entry, nibble-lt cr w)
 
-  pub read-repaired : e < 128 → Repaired (e % 16) (e / 16) ≡ readAs cr w
-  read-repaired = by-entry .0
-
-  pub read-taken : 128 ≤ e → e < 144 → Taken (e % 16) ≡ readAs cr w
-  read-taken = by-entry .1
-
-  pub read-unreadable : 144 ≤ e → Unreadable ≡ readAs cr w
-  read-unreadable = by-entry .2
+  pub none-is : Rate cr → w < 2 ^ (4 + cr) → noneIn e ≡ isUnreadable (readAs cr w)
+  none-is rate word = of (readAs cr w) refl (nibble-lt cr w) (flipped-le cr w rate word)
+    where
+      of : (f : Found) → readAs cr w ≡ f → nibbleOf f < 16 → (isUnreadable f ≡ false → flippedBit f ≤ 8) → noneIn e ≡ isUnreadable f
+      of (Taken d) r l b = lt-leb 144 e (omega (arith, rw r at entry))
+      of (Repaired d j) r l b = lt-leb 144 e (omega (arith, rw r at entry, b refl))
+      of Unreadable r l b = le-leb 144 e (omega (arith, rw r at entry))

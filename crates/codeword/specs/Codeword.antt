@@ -5,8 +5,7 @@ use Prim.Native.Nat.{ℕ, zero, suc, _+_, _-_, _%_}
 use lib.Dec.{eqb, leb, ltb}
 use Rattle.bits.specs.Bit.{bit, number}
 use Rattle.bits.specs.Search.{first, howMany}
-use Rattle.codeword.specs.declared.Found.{Found}
-use Rattle.codeword.specs.declared.Found.the-variants.{Taken, Repaired, Unreadable}
+use Rattle.codeword.specs.Found.{Found, Taken, Repaired, Unreadable}
 
 -- the parities p0 to p3 of a nibble of the bits d0 to d3, sums mod 2
 unfoldable pub parity : ℕ → ℕ → ℕ
@@ -51,7 +50,8 @@ readAs cr w =
     let away : ℕ → ℕ = λ n. first (λ d. eqb (apart cr w (codeword cr d)) n) 16 0 in
     cond (ltb (away 0) 16) (Taken (away 0)) (cond (leb 3 cr && ltb (away 1) 16) (Repaired (away 1) (bitTo cr w (away 1))) Unreadable)
 
--- the nibble that is read, the bit that was flipped (8 where none was), whether it is a repair, and whether there is none
+-- the nibble that is read; the bit that was flipped, 8 where the word is a codeword and 9 where it can't be read; whether it is a
+-- repair, and whether it can't be read
 abbrev pub nibbleOf : Found → ℕ
 nibbleOf (Taken d) = d
 nibbleOf (Repaired d j) = d
@@ -60,7 +60,7 @@ nibbleOf Unreadable = 0
 abbrev pub flippedBit : Found → ℕ
 flippedBit (Taken d) = 8
 flippedBit (Repaired d j) = j
-flippedBit Unreadable = 8
+flippedBit Unreadable = 9
 
 abbrev pub isRepaired : Found → Bool
 isRepaired (Taken d) = false

@@ -1,4 +1,5 @@
 pub mod Codeword
+pub mod Found
 pub mod Ranges
 pub mod Readings
 pub mod Rows

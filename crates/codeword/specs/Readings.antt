@@ -1,19 +1,26 @@
 -- What all received words are read as, as a table of numbers. Nothing here is part of an offered operation's contract.
 -- Assumes nothing.
-use mathlib.Core.Bool.{cond}
+use mathlib.Core.Bool.{Bool, cond}
 use mathlib.Core.List.{List}
-use Prim.Native.Nat.{ℕ, _+_, _-_, _*_}
-use lib.Dec.{ltb}
+use Prim.Native.Nat.{ℕ, _+_, _-_, _*_, _/_, _%_}
+use lib.Dec.{leb, ltb}
 use Rattle.bits.specs.Tab.{tab}
-use Rattle.codeword.specs.Codeword.{readAs}
-use Rattle.codeword.specs.declared.Found.{Found}
-use Rattle.codeword.specs.declared.Found.the-variants.{Taken, Repaired, Unreadable}
+use Rattle.codeword.specs.Codeword.{readAs, nibbleOf, flippedBit}
+use Rattle.codeword.specs.Found.{Found}
 
--- a reading as a number: 16 times the bit that is flipped and the nibble; 8 for the bit is taken, and 9 can't be read
+-- a reading as a byte: 16 times the bit that was flipped, and the nibble
 abbrev pub numberOfFound : Found → ℕ
-numberOfFound (Taken d) = 16 * 8 + d
-numberOfFound (Repaired d j) = 16 * j + d
-numberOfFound Unreadable = 16 * 9
+numberOfFound f = 16 * flippedBit f + nibbleOf f
+
+-- what a byte tells: the nibble, the bit, and that there is none
+abbrev pub nibbleIn : ℕ → ℕ
+nibbleIn n = n % 16
+
+abbrev pub bitIn : ℕ → ℕ
+bitIn n = n / 16
+
+abbrev pub noneIn : ℕ → Bool
+noneIn n = leb 144 n
 
 abbrev pub readingOf : ℕ → ℕ → ℕ
 readingOf cr w = numberOfFound (readAs cr w)

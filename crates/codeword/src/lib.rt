@@ -2,24 +2,16 @@
 ghost use mathlib.Core.Path.{_≡_};
 ghost use Prim.Native.Nat.{_+_, _^_, _<_};
 ghost use Rattle.bits.specs.Tab.{tab};
-ghost use Rattle.codeword.specs.Codeword.{readAs, nibbleOf, flippedBit, isRepaired, isUnreadable};
 ghost use Rattle.codeword.specs.Ranges.{Rate};
-ghost use Rattle.codeword.specs.Readings.{readingTable};
+ghost use Rattle.codeword.specs.Readings.{nibbleIn, bitIn, noneIn, readingOf, readingTable};
 ghost use Rattle.codeword.specs.Rows.{rowOfCode};
-
-// What a received word is found to be: a codeword; a word one bit away from one that is repaired, and the bit that is flipped;
-// or neither. The first number is the nibble.
-pub enum Found {
-    Taken(u8),
-    Repaired(u8, u8),
-    Unreadable,
-}
 
 // The received words of all rates: 32 at CR 1, 64 at CR 2, 128 at CR 3 and 256 at CR 4.
 pub const WORDS: usize = 480;
 
-// What each of them is read as, CR 1 first, 16 words a line: 8d is the nibble d, taken; jd is repaired to it, by flipping bit j;
-// 90 can't be read, which is so of no word at CR 3.
+// What each of them is read as, CR 1 first, 16 words a line. A reading is a byte of two hex digits, so that it can be told and
+// counted without a branch: the bit that is flipped, and the nibble. 8d is the nibble d, taken; jd is repaired to it, by
+// flipping bit j; 90 can't be read, which is so of no word at CR 3.
 const READINGS: [u8; WORDS] = *b"\
     \x80\x90\x90\x83\x90\x85\x86\x90\x90\x89\x8a\x90\x8c\x90\x90\x8f\
     \x90\x81\x82\x90\x84\x90\x90\x87\x88\x90\x90\x8b\x90\x8d\x8e\x90\
@@ -134,59 +126,31 @@ pub fn readings() -> [u8; WORDS]
     READINGS
 }
 
-pub fn read_word(readings: &[u8; WORDS], cr: u8, w: u8) -> Found
+// What a word of this rate is read as.
+pub fn read_word(readings: &[u8; WORDS], cr: u8, w: u8) -> u8
     requires { ⌜ (now readings ≡ readingTable) × Rate cr × (w < 2 ^ (4 + cr)) ⌝ }
-    ensures { λ r. ⌜ r ≡ readAs cr w ⌝ }
+    ensures { λ r. ⌜ r ≡ readingOf cr w ⌝ }
 {
     let place = bits::wide16(bits::power(4 + bits::wide(cr))) - 32 + bits::wide(w);
-    let entry = readings[place];
-    let nibble = entry % 16;
-    if entry < 128 {
-        Found::Repaired(nibble, entry / 16)
-    } else if entry < 144 {
-        Found::Taken(nibble)
-    } else {
-        Found::Unreadable
-    }
+    readings[place]
 }
 
-pub fn nibble(found: Found) -> u8
-    ensures { λ r. ⌜ r ≡ nibbleOf found ⌝ }
+// The nibble of a reading.
+pub fn nibble(reading: u8) -> u8
+    ensures { λ r. ⌜ r ≡ nibbleIn reading ⌝ }
 {
-    match found {
-        Found::Taken(d) => d,
-        Found::Repaired(d, _) => d,
-        Found::Unreadable => 0,
-    }
+    reading % 16
 }
 
 // The bit that was flipped, 0 to 7; 8 where none was.
-pub fn flipped_bit(found: Found) -> u8
-    ensures { λ r. ⌜ r ≡ flippedBit found ⌝ }
+pub fn flipped_bit(reading: u8) -> u8
+    ensures { λ r. ⌜ r ≡ bitIn reading ⌝ }
 {
-    match found {
-        Found::Taken(_) => 8,
-        Found::Repaired(_, j) => j,
-        Found::Unreadable => 8,
-    }
+    reading / 16
 }
 
-pub fn repaired(found: Found) -> bool
-    ensures { λ r. ⌜ r ≡ isRepaired found ⌝ }
+pub fn unreadable(reading: u8) -> bool
+    ensures { λ r. ⌜ r ≡ noneIn reading ⌝ }
 {
-    match found {
-        Found::Taken(_) => false,
-        Found::Repaired(_, _) => true,
-        Found::Unreadable => false,
-    }
-}
-
-pub fn unreadable(found: Found) -> bool
-    ensures { λ r. ⌜ r ≡ isUnreadable found ⌝ }
-{
-    match found {
-        Found::Taken(_) => false,
-        Found::Repaired(_, _) => false,
-        Found::Unreadable => true,
-    }
+    reading >= 144
 }

@@ -14,7 +14,7 @@ use Rattle.bits.specs.Tab.{tab}
 use Rattle.bits.proofs.Searches.{first-range, first-before, first-cong, howMany-cong}
 use Rattle.bits.proofs.Tabs.{tab-cong}
 use Rattle.codeword.specs.Codeword.{nibbleOf, isRepaired, isUnreadable}
-use Rattle.codeword.specs.declared.Found.{Found}
+use Rattle.codeword.specs.Found.{Found}
 use Rattle.codeword.proofs.CodeLaws.{nibble-lt}
 use Rattle.header.specs.Header.{verdictOf}
 use Rattle.header.specs.declared.Header.{Header}

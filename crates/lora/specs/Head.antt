@@ -8,7 +8,7 @@ use lib.ListN.{length, getD}
 use Rattle.bits.specs.Check.{check}
 use Rattle.bits.specs.Search.{first}
 use Rattle.bits.specs.Tab.{tab}
-use Rattle.codeword.specs.declared.Found.{Found}
+use Rattle.codeword.specs.Found.{Found}
 use Rattle.header.specs.Header.{verdictOf}
 use Rattle.header.specs.declared.Verdict.{Verdict}
 use Rattle.header.specs.declared.Verdict.the-variants.{Says as HeaderSays, Refused as HeaderRefused}

@@ -10,8 +10,7 @@ use lib.ListN.{length, getD}
 use borrow.Author.Tests.{leb-true, leb-false, le-leb, lt-leb, ne-eqb}
 use Rattle.bits.proofs.Tabs.{getD-over}
 use Rattle.codeword.specs.Codeword.{isUnreadable, isRepaired, nibbleOf}
-use Rattle.codeword.specs.declared.Found.{Found}
-use Rattle.codeword.specs.declared.Found.the-variants.{Unreadable}
+use Rattle.codeword.specs.Found.{Found, Unreadable}
 use Rattle.layout.specs.Layout.{blockOfCodeword, symbolsOf}
 use Rattle.layout.proofs.LayoutLaws.{block-of-read}
 use Rattle.lora.specs.Code.{sentNibble, sentSymbol, Coding}

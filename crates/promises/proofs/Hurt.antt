@@ -18,7 +18,7 @@ use Rattle.bits.proofs.Tabs.{length-tab, getD-over}
 use Rattle.bits.proofs.Tallies.{sum-parts}
 use Rattle.codeword.specs.Codeword.{codeword, flipped, readAs, flippedBit}
 use Rattle.codeword.specs.Ranges.{Rate}
-use Rattle.codeword.specs.declared.Found.the-variants.{Repaired}
+use Rattle.codeword.specs.Found.{Repaired}
 use Rattle.codeword.proofs.CodeLaws.{differs-at, repaired-by}
 use Rattle.layout.specs.Layout.{blockOfCodeword, nibblesOf, symbolsOf}
 use Rattle.layout.specs.Ranges.{Valid}

@@ -17,8 +17,7 @@ use Rattle.block.specs.Gray.{valueOfNumber}
 use Rattle.block.proofs.BlockLaws.{local, wrong-bits, not-eqb-mono}
 use Rattle.codeword.specs.Codeword.{codeword, apart, bitTo, readAs}
 use Rattle.codeword.specs.Ranges.{Rate}
-use Rattle.codeword.specs.declared.Found.{Found}
-use Rattle.codeword.specs.declared.Found.the-variants.{Taken, Repaired, Unreadable}
+use Rattle.codeword.specs.Found.{Found, Taken, Repaired, Unreadable}
 use Rattle.codeword.proofs.CodeLaws as code
 use Rattle.coding.specs.Symbols.{codewordInBlock, symbolInBlock}
 use Rattle.coding.proofs.CodingLaws.{frame-nibble-lt, symbol-of-block}

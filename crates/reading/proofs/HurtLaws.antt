@@ -1,7 +1,7 @@
 -- In which symbols codewords are repaired: a block's flips, counted row by row, and the frame's marks, block by block.
 -- Assumes nothing.
 use mathlib.Core.Path.{_≡_, refl, sym, ap, ap₂, _∙_}
-use mathlib.Core.Bool.{Bool, true, false, _&&_}
+use mathlib.Core.Bool.{Bool, true, false, not, _&&_}
 use mathlib.Core.List.{List}
 use Prim.Native.Nat.{ℕ, _+_, _-_, _≤_, _<_}
 use native.Mathlib.Decide.{ℕ-discrete}
@@ -12,13 +12,13 @@ use borrow.Author.Tests.{ltb-true, ltb-false, eq-eqb, ne-eqb}
 use Rattle.bits.specs.Search.{howMany}
 use Rattle.bits.specs.Tab.{overAt, blank}
 use Rattle.bits.specs.Tally.{tallied}
-use Rattle.bits.proofs.Searches.{howMany-add, howMany-cong, howMany-none}
+use Rattle.bits.proofs.Searches.{howMany-add, howMany-cong, howMany-none, howMany-rest}
 use Rattle.bits.proofs.Tabs.{getD-overAt, getD-overAt-before, length-overAt}
 use Rattle.bits.proofs.Tallies.{tallied-none, tallied-more, tallied-le, getD-tallied}
 use Rattle.codeword.specs.Codeword.{flippedBit, isRepaired}
-use Rattle.codeword.specs.declared.Found.{Found}
-use Rattle.codeword.specs.declared.Found.the-variants.{Taken, Repaired, Unreadable}
-use Rattle.codeword.proofs.CodeLaws.{flipped-lt}
+use Rattle.codeword.specs.Ranges.{Rate}
+use Rattle.codeword.specs.Found.{Found, Taken, Repaired, Unreadable}
+use Rattle.codeword.proofs.CodeLaws.{flipped-lt, repaired-where}
 use Rattle.layout.specs.declared.Block.{Block}
 use Rattle.layout.specs.declared.Frame.{Frame}
 use Rattle.layout.specs.Layout.{blockOf, blockOfCodeword}
@@ -26,8 +26,9 @@ use Rattle.layout.specs.Ranges.{Valid}
 use Rattle.layout.proofs.LayoutLaws.{rate-fits, codeword-in, symbols-before}
 use Rattle.reading.specs.Found.{foundInBlock, foundAt, repairedAt, symbolOfBit, repairedIn, hurtAt}
 use Rattle.reading.specs.Stages.{gridOfSymbols, readRow, rowsFrom, listed, flips, Marked}
+use Rattle.reading.proofs.ReadLoop.{Clear}
 use Rattle.reading.proofs.ReadingLaws.{word-lt}
-use Rattle.reading.proofs.RowLaws.{row-found}
+use Rattle.reading.proofs.RowLaws.{row-found, row-lt}
 
 -- no row is counted yet, one more is, and no count passes their number
 pub flips-none : (found : ℕ → Found) → blank 9 0 ≡ flips found 0
@@ -43,11 +44,48 @@ module _ (found : ℕ → Found) (m : ℕ) {l : List ℕ} (e : l ≡ flips found
   unfolding flips
   flips-le j h = rw e (tallied-le 9 (λ i. flippedBit (found i)) m j h)
 
+-- of n rows that can be read those with no repair are counted in cell 8, and the others are repaired
+module _ (found : ℕ → Found) (from n : ℕ) {l k : List ℕ} (before : l ≡ flips found from) (after : k ≡ flips found (from + n))
+    (good : (i : ℕ) → i < n → isRepaired (found (from + i)) ≡ not (eqb (flippedBit (found (from + i))) 8)) where
+  clean : ℕ
+  clean = howMany (λ i. eqb (flippedBit (found (from + i))) 8) n
+
+  clean-counted : getD k 8 0 ≡ getD l 8 0 + clean
+  unfolding flips clean
+  clean-counted =
+      let p : ℕ → ℕ = λ i. flippedBit (found i) in
+      ap (λ (x : List ℕ). getD x 8 0) after ∙ getD-tallied 9 p (from + n) 8 (omega arith) ∙ howMany-add (λ i. eqb (p i) 8) from n
+      ∙ ap (λ (x : ℕ). x + howMany (λ i. eqb (p (from + i)) 8) n) (sym (ap (λ (x : List ℕ). getD x 8 0) before ∙ getD-tallied 9 p from 8 (omega arith)))
+
+  others : howMany (λ i. isRepaired (found (from + i))) n + clean ≡ n
+  unfolding clean
+  others = rw (howMany-cong _ _ n good) (howMany-rest (λ i. eqb (flippedBit (found (from + i))) 8) n)
+
+  pub flips-apart : (getD l 8 0 ≤ getD k 8 0) × (getD k 8 0 - getD l 8 0 ≤ n)
+  flips-apart = omega (arith, clean-counted, others)
+
+  pub flips-repairs : n - (getD k 8 0 - getD l 8 0) ≡ howMany (λ i. isRepaired (found (from + i))) n
+  flips-repairs = omega (arith, clean-counted, others)
+
+-- the same of rows of a grid, each of which was read
+module _ (rate : ℕ) (g : List (List Bool)) (from n : ℕ) {l k : List ℕ} {repairs : ℕ} (ok : Rate rate) (before : l ≡ flips (readRow rate g) from)
+    (after : k ≡ flips (readRow rate g) (from + n)) (read : Clear (rowsFrom rate g from) n repairs) where
+  good : (i : ℕ) → i < n → isRepaired (readRow rate g (from + i)) ≡ not (eqb (flippedBit (readRow rate g (from + i))) 8)
+  unfolding readRow rowsFrom
+  good i h = repaired-where rate _ ok (row-lt (4 + rate) g (from + i)) (read .good i h)
+
+  pub rows-apart : (getD l 8 0 ≤ getD k 8 0) × (getD k 8 0 - getD l 8 0 ≤ n)
+  rows-apart = flips-apart (readRow rate g) from n before after good
+
+  pub rows-repairs : n - (getD k 8 0 - getD l 8 0) ≡ repairs
+  unfolding rowsFrom
+  rows-repairs = flips-repairs (readRow rate g) from n before after good ∙ sym (read .counts)
+
 -- a bit that is counted for one of the eight columns is a repair's
 counted : (f : Found) (j : ℕ) → j < 8 → (isRepaired f && eqb (flippedBit f) j) ≡ eqb (flippedBit f) j
 counted (Taken d) j h = sym (ne-eqb 8 j (λ e. omega arith))
 counted (Repaired d k) j h = refl
-counted Unreadable j h = sym (ne-eqb 8 j (λ e. omega arith))
+counted Unreadable j h = sym (ne-eqb 9 j (λ e. omega arith))
 
 and-false : (a : Bool) {b : Bool} → b ≡ false → (a && b) ≡ false
 and-false true e = e

@@ -17,7 +17,7 @@ use Rattle.bits.proofs.Tabs.{overAt-none, length-overAt}
 use Rattle.bits.proofs.Searches.{first-is, first-none, first-range, first-found, first-before, howMany-more, howMany-le, howMany-cong, howMany-add}
 use Rattle.block.specs.Block.{wordOfNumber}
 use Rattle.codeword.specs.Codeword.{nibbleOf, isRepaired, isUnreadable}
-use Rattle.codeword.specs.declared.Found.{Found}
+use Rattle.codeword.specs.Found.{Found}
 use Rattle.reading.specs.Found.{unreadableAt, repairedAt, nibbleAt}
 use Rattle.reading.specs.Stages.{Walk}
 

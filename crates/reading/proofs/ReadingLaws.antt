@@ -16,7 +16,7 @@ use Rattle.bits.proofs.Searches.{first-cong, first-range, howMany-cong}
 use Rattle.bits.proofs.Tabs.{length-blank, length-tab, getD-blank, getD-over, getD-overAt, overAt-all, tab-cong}
 use Rattle.block.proofs.BlockLaws.{received-lt}
 use Rattle.codeword.specs.Codeword.{nibbleOf, isRepaired, isUnreadable}
-use Rattle.codeword.specs.declared.Found.{Found}
+use Rattle.codeword.specs.Found.{Found}
 use Rattle.codeword.proofs.CodeLaws.{nibble-lt}
 use Rattle.layout.specs.declared.Block.{Block}
 use Rattle.layout.specs.declared.Frame.{Frame}

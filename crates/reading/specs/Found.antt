@@ -9,7 +9,7 @@ use lib.ListN.{getD}
 use Rattle.bits.specs.Search.{howMany}
 use Rattle.block.specs.Block.{received}
 use Rattle.codeword.specs.Codeword.{readAs, nibbleOf, flippedBit, isRepaired, isUnreadable}
-use Rattle.codeword.specs.declared.Found.{Found}
+use Rattle.codeword.specs.Found.{Found}
 use Rattle.layout.specs.Layout.{blockOf, blockOfCodeword}
 use Rattle.layout.specs.declared.Block.{Block}
 use Rattle.layout.specs.declared.Frame.{Frame}

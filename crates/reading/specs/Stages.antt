@@ -11,7 +11,7 @@ use Rattle.bits.specs.Tally.{tallied}
 use Rattle.block.specs.Block.{wordOfNumber}
 use Rattle.block.specs.Grid.{gridOfWords, codewordOfGrid}
 use Rattle.codeword.specs.Codeword.{readAs, flippedBit}
-use Rattle.codeword.specs.declared.Found.{Found}
+use Rattle.codeword.specs.Found.{Found}
 use Rattle.layout.specs.declared.Block.{Block}
 use Rattle.layout.specs.declared.Frame.{Frame}
 use Rattle.layout.specs.Layout.{rowsOfFirst}

@@ -1,6 +1,6 @@
 // From received symbols to a frame's nibbles, block by block, and from nibbles to the payload.
 ghost use mathlib.Core.Path.{_≡_};
-ghost use Prim.Native.Nat.{ℕ, _+_, _≤_, _<_, min};
+ghost use Prim.Native.Nat.{ℕ, _+_, _-_, _≤_, _<_, min};
 ghost use lib.ListN.{length, getD};
 ghost use Rattle.bits.specs.Tab.{over, overAt, blank};
 ghost use Rattle.codeword.specs.Ranges.{Rate};
@@ -66,6 +66,14 @@ pub fn first_grid(sf: u8, symbols: &[u16]) -> [[bool; 8]; 12]
     grid_of_block(layout::first_block(sf), symbols)
 }
 
+// How many of n codewords were repaired, from the counts of those with no repair before them and behind them.
+fn repaired(n: usize, before: u8, after: u8) -> usize
+    requires { ⌜ (before ≤ after) × (after - before ≤ n) ⌝ }
+    ensures { λ r. ⌜ r ≡ n - (after - before) ⌝ }
+{
+    n - bits::wide(after - before)
+}
+
 // Reads n codewords of a block's grid, from its row `from` on, into the nibbles from the place at on, up to the first that
 // can't be read. The flips of the rows before are counted on.
 pub fn read_rows(
@@ -82,19 +90,24 @@ pub fn read_rows(
     ensures { λ r. ⌜ Walk (rowsFrom rate (now (g .entry)) from) n at (now (nibbles .entry)) (now (nibbles .exit)) (r .end) (r .repairs) × (now (counts .exit) ≡ flips (readRow rate (now (g .entry))) (from + r .end)) ⌝ }
 {
     let columns = 4 + bits::wide(rate);
-    let mut repairs = 0;
+    let clean = counts[8];
     for i in 0..n {
         let word = block::codeword_of_grid(columns, g, from + i);
-        let found = codeword::read_word(readings, rate, word);
-        if codeword::unreadable(found) {
-            return Progress { end: i, repairs };
+        let reading = codeword::read_word(readings, rate, word);
+        if codeword::unreadable(reading) {
+            return Progress {
+                end: i,
+                repairs: repaired(i, clean, counts[8]),
+            };
         }
-        nibbles[at + i] = codeword::nibble(found);
-        repairs += codeword::repaired(found) as usize;
-        let bit = bits::wide(codeword::flipped_bit(found));
+        nibbles[at + i] = codeword::nibble(reading);
+        let bit = bits::wide(codeword::flipped_bit(reading));
         counts[bit] += 1;
     }
-    Progress { end: n, repairs }
+    Progress {
+        end: n,
+        repairs: repaired(n, clean, counts[8]),
+    }
 }
 
 // Writes a block's counts to the cells of its symbols, from the place at on. It writes eight, which is faster than as many as

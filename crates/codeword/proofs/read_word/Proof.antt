@@ -1,4 +1,4 @@
--- The entry at the word's place says what the word is read as: taken, repaired or unreadable.
+-- The entry at the word's place is the word's reading.
 -- Assumes nothing.
 use mathlib.Core.Path.{_≡_, ap, _∙_}
 use Prim.Native.Nat.{ℕ, _+_, _-_, _^_}
@@ -6,7 +6,7 @@ use native.Mathlib.Omega.{arith}
 use lib.ListN.{getD}
 use borrow.Author.Needs.{needs}
 use Rattle.codeword.specs.Readings.{readingOf}
-use Rattle.codeword.proofs.Lookup.{placeOf, power-le, place-lt, entry-is, read-taken, read-repaired, read-unreadable}
+use Rattle.codeword.proofs.Lookup.{placeOf, power-le, place-lt, entry-is}
 use Rattle.codeword.proofs.read_word.Statement.{statement}
 use Rattle.codeword.proofs.read_word.Tie as tie
 
@@ -48,17 +48,11 @@ wide-requires-2 c κs = search needs
 add-place : tie.Need-add-place
 add-place c = search needs
 
-element-copy-out-entry : tie.Need-element-copy-out-entry
-element-copy-out-entry c = let (table, rate, word) = begin c .pre in omega (arith, place-lt rate word (place c))
+element-copy-out-result : tie.Need-element-copy-out-result
+element-copy-out-result c = let (table, rate, word) = begin c .pre in omega (arith, place-lt rate word (place c))
 
 returns : tie.Need-returns
-returns c = let b = c .before .before in let (table, rate, word) = begin b .pre in read-repaired _ _ rate word (entry b) (c .if1 .taken)
-
-returns-2 : tie.Need-returns-2
-returns-2 c = let b = c .before .before .before in let (table, rate, word) = begin b .pre in read-taken _ _ rate word (entry b) (c .before .if1 .left) (c .if2 .taken)
-
-returns-3 : tie.Need-returns-3
-returns-3 c = let b = c .before .before .before in let (table, rate, word) = begin b .pre in read-unreadable _ _ rate word (entry b) (c .if2 .left)
+returns c = entry (c .before)
 
 pub read-word-spec : {M : Type 1} → statement M
 read-word-spec =
@@ -71,7 +65,5 @@ read-word-spec =
     sub-place
     wide-requires-2
     add-place
-    element-copy-out-entry
-    returns
-    returns-2
-    returns-3)
+    element-copy-out-result
+    returns)
