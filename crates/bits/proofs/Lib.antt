@@ -2,10 +2,11 @@ pub mod Bits
 pub mod Every
 pub mod Fill
 pub mod Lists
+pub mod Packs
 pub mod Placed
 pub mod Searches
+pub mod Sums
 pub mod Tabs
-pub mod Tallies
 pub mod Truth
 pub mod Turns
 pub mod Xor

@@ -1,5 +1,6 @@
 pub mod Bit
+pub mod Bytes
 pub mod Check
 pub mod Search
+pub mod Sum
 pub mod Tab
-pub mod Tally

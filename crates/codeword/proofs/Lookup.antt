@@ -5,13 +5,17 @@ use mathlib.Core.Bool.{false}
 use mathlib.Core.List.{List}
 use Prim.Native.Nat.{ℕ, zero, suc, _+_, _-_, _^_, _≤_, _<_}
 use native.Mathlib.Nat.{pow-le-pow-right}
+use native.Mathlib.Decide.{ℕ-discrete}
 use native.Mathlib.Omega.{arith}
-use borrow.Author.Tests.{lt-ltb, le-ltb, lt-leb, le-leb}
+use lib.Dec.{eqb}
+use borrow.Author.Tests.{lt-ltb, le-ltb, lt-leb, le-leb, eq-eqb, ne-eqb}
 use lib.ListN.{getD}
+use Rattle.bits.specs.Bit.{asBit}
+use Rattle.bits.specs.Bytes.{stepOf}
 use Rattle.bits.proofs.Tabs.{getD-tab}
 use Rattle.codeword.specs.Codeword.{readAs, nibbleOf, flippedBit, isUnreadable}
 use Rattle.codeword.specs.Ranges.{Rate}
-use Rattle.codeword.specs.Readings.{nibbleIn, bitIn, noneIn, readingOf, readingAt, readingTable}
+use Rattle.codeword.specs.Readings.{nibbleIn, bitIn, cleanIn, noneIn, readingOf, readingAt, readingTable, stepTable}
 use Rattle.codeword.specs.Found.{Found, Taken, Repaired, Unreadable}
 use Rattle.codeword.proofs.CodeLaws.{nibble-lt, flipped-le}
 
@@ -57,6 +61,13 @@ module _ (cr w : ℕ) {e : ℕ} (entry : e ≡ readingOf cr w) where
   pub bit-is : bitIn e ≡ flippedBit (readAs cr w)
   bit-is = omega (arith, entry, nibble-lt cr w)
 
+  pub clean-is : isUnreadable (readAs cr w) ≡ false → Rate cr → w < 2 ^ (4 + cr) → cleanIn e ≡ asBit (eqb (flippedBit (readAs cr w)) 8)
+  clean-is can rate word = by (ℕ-discrete (flippedBit (readAs cr w)) 8) (flipped-le cr w rate word can)
+    where
+      by : Dec (flippedBit (readAs cr w) ≡ 8) → flippedBit (readAs cr w) ≤ 8 → cleanIn e ≡ asBit (eqb (flippedBit (readAs cr w)) 8)
+      by (yes q) l = rw (eq-eqb (flippedBit (readAs cr w)) 8 q) (omega (arith, entry, nibble-lt cr w, q))
+      by (no q) l = rw (ne-eqb (flippedBit (readAs cr w)) 8 q) (omega (arith, entry, nibble-lt cr w))
+
   pub none-is : Rate cr → w < 2 ^ (4 + cr) → noneIn e ≡ isUnreadable (readAs cr w)
   none-is rate word = of (readAs cr w) refl (nibble-lt cr w) (flipped-le cr w rate word)
     where
@@ -64,3 +75,8 @@ module _ (cr w : ℕ) {e : ℕ} (entry : e ≡ readingOf cr w) where
       of (Taken d) r l b = lt-leb 144 e (omega (arith, rw r at entry))
       of (Repaired d j) r l b = lt-leb 144 e (omega (arith, rw r at entry, b refl))
       of Unreadable r l b = le-leb 144 e (omega (arith, rw r at entry))
+
+-- the step of a bit
+pub step-is : {table : List ℕ} → table ≡ stepTable → (b : ℕ) → b < 9 → getD table b 0 ≡ stepOf 8 b
+unfolding stepTable
+step-is t b h = ap (λ (l : List ℕ). getD l b 0) t ∙ getD-tab 9 (stepOf 8) b 0 h

@@ -4,6 +4,7 @@ use mathlib.Core.Bool.{Bool, cond}
 use mathlib.Core.List.{List}
 use Prim.Native.Nat.{ℕ, _+_, _-_, _*_, _/_, _%_}
 use lib.Dec.{leb, ltb}
+use Rattle.bits.specs.Bytes.{stepOf}
 use Rattle.bits.specs.Tab.{tab}
 use Rattle.codeword.specs.Codeword.{readAs, nibbleOf, flippedBit}
 use Rattle.codeword.specs.Found.{Found}
@@ -12,12 +13,15 @@ use Rattle.codeword.specs.Found.{Found}
 abbrev pub numberOfFound : Found → ℕ
 numberOfFound f = 16 * flippedBit f + nibbleOf f
 
--- what a byte tells: the nibble, the bit, and that there is none
+-- what a byte tells: the nibble; the bit; that no bit was flipped, as 1 or 0; that the word can't be read
 abbrev pub nibbleIn : ℕ → ℕ
 nibbleIn n = n % 16
 
 abbrev pub bitIn : ℕ → ℕ
 bitIn n = n / 16
+
+abbrev pub cleanIn : ℕ → ℕ
+cleanIn n = n / 128
 
 abbrev pub noneIn : ℕ → Bool
 noneIn n = leb 144 n
@@ -32,3 +36,7 @@ readingAt k =
 
 unfoldable pub readingTable : List ℕ
 readingTable = tab 480 readingAt
+
+-- what each bit adds to a number with a byte for each of eight: one in its byte; no bit, 8, adds nothing
+unfoldable pub stepTable : List ℕ
+stepTable = tab 9 (stepOf 8)

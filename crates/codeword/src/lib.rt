@@ -3,7 +3,7 @@ ghost use mathlib.Core.Path.{_≡_};
 ghost use Prim.Native.Nat.{_+_, _^_, _<_};
 ghost use Rattle.bits.specs.Tab.{tab};
 ghost use Rattle.codeword.specs.Ranges.{Rate};
-ghost use Rattle.codeword.specs.Readings.{nibbleIn, bitIn, noneIn, readingOf, readingTable};
+ghost use Rattle.codeword.specs.Readings.{nibbleIn, bitIn, cleanIn, noneIn, readingOf, readingTable, stepTable};
 ghost use Rattle.codeword.specs.Rows.{rowOfCode};
 
 // The received words of all rates: 32 at CR 1, 64 at CR 2, 128 at CR 3 and 256 at CR 4.
@@ -43,6 +43,23 @@ const READINGS: [u8; WORDS] = *b"\
     \x01\x81\x90\x11\x90\x21\x46\x90\x90\x31\x6a\x90\x7c\x90\x90\x5f\
     \x38\x90\x90\x63\x90\x75\x56\x90\x88\x08\x18\x90\x28\x90\x90\x4f\
     \x90\x51\x72\x90\x64\x90\x90\x3f\x48\x90\x90\x2f\x90\x1f\x0f\x8f";
+
+// The bits of a reading: 0 to 7, and 8 for none.
+pub const BITS: usize = 9;
+
+// What each adds to a number that counts flips, a byte for each bit of a codeword: one in its byte. A table is quicker here than
+// a shift, and no bit adds nothing.
+const STEPS: [u64; BITS] = [
+    1,
+    256,
+    65536,
+    16777216,
+    4294967296,
+    1099511627776,
+    281474976710656,
+    72057594037927936,
+    0,
+];
 
 // The codewords as rows of a grid, 16 for each rate: nibble d's at CR is row 16 x (CR - 1) + d.
 const ROWS: [[bool; 8]; 64] = [
@@ -126,6 +143,13 @@ pub fn readings() -> [u8; WORDS]
     READINGS
 }
 
+// What the bits add, for a caller that lends it.
+pub fn steps() -> [u64; BITS]
+    ensures { λ r. ⌜ r ≡ stepTable ⌝ }
+{
+    STEPS
+}
+
 // What a word of this rate is read as.
 pub fn read_word(readings: &[u8; WORDS], cr: u8, w: u8) -> u8
     requires { ⌜ (now readings ≡ readingTable) × Rate cr × (w < 2 ^ (4 + cr)) ⌝ }
@@ -147,6 +171,13 @@ pub fn flipped_bit(reading: u8) -> u8
     ensures { λ r. ⌜ r ≡ bitIn reading ⌝ }
 {
     reading / 16
+}
+
+// 1 where no bit was flipped, and else 0.
+pub fn clean(reading: u8) -> u8
+    ensures { λ r. ⌜ r ≡ cleanIn reading ⌝ }
+{
+    reading / 128
 }
 
 pub fn unreadable(reading: u8) -> bool

@@ -202,7 +202,7 @@ unfolding hurtFound
 copied-marks {marks} {total} F symbols len old is room m = rw is (copied (symbolsOf F len) marks old _ (rw is at room) (m .cells))
 
 -- where head says a header, the frame behind it can be read on
-pub headed : (sf : ℕ) (low : Bool) (symbols : List ℕ) (h : Header) {grid : List (List Bool)} {repairs : ℕ} {counts : List ℕ} → Heads sf symbols h
+pub headed : (sf : ℕ) (low : Bool) (symbols : List ℕ) (h : Header) {grid : List (List Bool)} {repairs counts : ℕ} → Heads sf symbols h
     → grid ≡ gridOfSymbols (firstBlock sf) symbols → repairs ≡ howMany (repairedAt (headerFound sf symbols)) 5 → counts ≡ flips (readRow 4 grid) 5
     → Headed (frameSaid sf low (h .cr) (h .checked)) symbols (h .length) grid repairs counts
 headed sf low symbols h {grid} {repairs} p g r c =

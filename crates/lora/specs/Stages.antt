@@ -32,14 +32,14 @@ Entered Passed sf symbols = (7 ≤ sf) × (sf ≤ 12) × (8 ≤ length symbols) 
 Entered (EntryRefused number place) sf symbols = headOf sf symbols ≡ HeadRefused number place
 
 -- what the first five rows of a grid say as a header; and where they say one, the repairs and the flips among them
-pub record Opening (grid : List (List Bool)) (heading : Heading) (repairs : ℕ) (counts : List ℕ) : Type 0 where
+pub record Opening (grid : List (List Bool)) (heading : Heading) (repairs counts : ℕ) : Type 0 where
   pub says : heading ≡ headerOf (rowsFrom 4 grid 0)
   pub repaired : (h : Header) → heading ≡ Says h → repairs ≡ howMany (repairedAt (rowsFrom 4 grid 0)) 5
   pub flipped : (h : Header) → heading ≡ Says h → counts ≡ flips (readRow 4 grid) 5
 
 -- a header was read: the frame that it says is valid, its first eight symbols are below 2^SF, block 0 is in the grid, and its repairs
 -- and flips are counted
-pub record Headed (F : Frame) (symbols : List ℕ) (len : ℕ) (grid : List (List Bool)) (repairs : ℕ) (counts : List ℕ) : Type 0 where
+pub record Headed (F : Frame) (symbols : List ℕ) (len : ℕ) (grid : List (List Bool)) (repairs counts : ℕ) : Type 0 where
   pub valid : Valid F
   pub short : len ≤ 255
   pub starts : (t : ℕ) → t < 8 → getD symbols t 0 < 2 ^ F .sf
@@ -61,7 +61,7 @@ Admitted Passed F symbols room marks len =
 Admitted (EntryRefused number place) F symbols room marks len = bodyOf F symbols room marks len ≡ Refused number place
 
 -- a header was read, and the whole frame is there
-pub record Decodable (F : Frame) (symbols : List ℕ) (len : ℕ) (grid : List (List Bool)) (repairs : ℕ) (counts : List ℕ) (total : ℕ) : Type 0 where
+pub record Decodable (F : Frame) (symbols : List ℕ) (len : ℕ) (grid : List (List Bool)) (repairs counts total : ℕ) : Type 0 where
   pub headed : Headed F symbols len grid repairs counts
   pub whole : total ≡ symbolsOf F len
   pub there : total ≤ length symbols

@@ -3,13 +3,13 @@ ghost use mathlib.Core.Path.{_≡_};
 ghost use Prim.Native.Nat.{_-_, _≤_};
 ghost use lib.Dec.{leb};
 ghost use lib.ListN.{length};
-ghost use Rattle.codeword.specs.Readings.{readingTable};
+ghost use Rattle.codeword.specs.Readings.{readingTable, stepTable};
 ghost use Rattle.lora.specs.Head.{firstOver, said, headOf};
 ghost use Rattle.lora.specs.Stages.{Entered, Opening};
 use crate::Heading;
+use codeword::BITS;
 use codeword::WORDS;
 use header::Verdict;
-use reading::FLIPS;
 use reading::NIBBLES;
 
 // Whether no symbol from the index from on, up to the index end, is 2^SF or more. It looks at all of them, so that the compiler
@@ -92,18 +92,17 @@ fn said(v: Verdict) -> Heading
 pub struct Opened {
     pub heading: Heading,
     pub repairs: usize,
-    pub flips: [u8; FLIPS],
+    pub flips: u64,
 }
 
 // Reads the header's codewords in the grid of block 0.
-pub fn header_of(readings: &[u8; WORDS], grid: &[[bool; 8]; 12]) -> Opened
-    requires { ⌜ now readings ≡ readingTable ⌝ }
+pub fn header_of(readings: &[u8; WORDS], steps: &[u64; BITS], grid: &[[bool; 8]; 12]) -> Opened
+    requires { ⌜ (now readings ≡ readingTable) × (now steps ≡ stepTable) ⌝ }
     ensures { λ r. ⌜ Opening (now (grid .entry)) (r .heading) (r .repairs) (r .flips) ⌝ }
 {
     let mut nibbles = [0u8; NIBBLES];
-    let mut flips = [0u8; FLIPS];
-    let progress = reading::read_rows(readings, 4, grid, 0, 5, 0, &mut nibbles, &mut flips);
-    let end = progress.end;
+    let rows = reading::read_rows(readings, steps, 4, grid, 0, 5, 0, 0, &mut nibbles);
+    let end = rows.end;
     if end < 5 {
         return Opened {
             heading: Heading::Refused {
@@ -111,14 +110,14 @@ pub fn header_of(readings: &[u8; WORDS], grid: &[[bool; 8]; 12]) -> Opened
                 place: end,
             },
             repairs: 0,
-            flips,
+            flips: 0,
         };
     }
     let verdict = header::judge([nibbles[0], nibbles[1], nibbles[2], nibbles[3], nibbles[4]]);
     Opened {
         heading: said(verdict),
-        repairs: progress.repairs,
-        flips,
+        repairs: rows.repairs,
+        flips: rows.flips,
     }
 }
 
@@ -132,7 +131,8 @@ pub fn head(sf: u8, symbols: &[u16]) -> Heading
         Entry::Passed => {
             let grid = reading::first_grid(sf, symbols);
             let readings = codeword::readings();
-            header_of(&readings, &grid).heading
+            let steps = codeword::steps();
+            header_of(&readings, &steps, &grid).heading
         }
     }
 }

@@ -3,7 +3,7 @@ ghost use mathlib.Core.Path.{_≡_};
 ghost use Prim.Native.Nat.{ℕ, _≤_, _<_};
 ghost use lib.ListN.{length, getD};
 ghost use Rattle.bits.specs.Tab.{over};
-ghost use Rattle.codeword.specs.Readings.{readingTable};
+ghost use Rattle.codeword.specs.Readings.{readingTable, stepTable};
 ghost use Rattle.layout.specs.Layout.{symbolsOf};
 ghost use Rattle.layout.specs.Ranges.{Valid};
 ghost use Rattle.reading.specs.Stages.{listed};
@@ -17,11 +17,11 @@ use crate::Settings;
 use crate::counting;
 use crate::opening;
 use crate::opening::Entry;
+use codeword::BITS;
 use codeword::WORDS;
 use layout::Frame;
 use layout::LONGEST;
 use layout::MOST_SYMBOLS;
-use reading::FLIPS;
 use reading::NIBBLES;
 
 // Whether the payload's checksum is the one that was sent, where there is one.
@@ -46,16 +46,17 @@ struct Body {
 // marks the frame's symbols.
 fn decode(
     readings: &[u8; WORDS],
+    steps: &[u64; BITS],
     f: Frame,
     grid: &[[bool; 8]; 12],
     repairs: usize,
-    flips: [u8; FLIPS],
+    flips: u64,
     symbols: &[u16],
     len: usize,
     total: usize,
     marks: &mut [u8; MOST_SYMBOLS],
 ) -> Body
-    requires { ⌜ (now readings ≡ readingTable) × Decodable f (now symbols) len (now grid) repairs flips total × (length (now marks) ≡ 832) ⌝ }
+    requires { ⌜ (now readings ≡ readingTable) × (now steps ≡ stepTable) × Decodable f (now symbols) len (now grid) repairs flips total × (length (now marks) ≡ 832) ⌝ }
     ensures { λ r. ⌜ Decoded f (now (symbols .entry)) len (r .payload) (now (marks .exit)) (r .answer) ⌝ }
 {
     let header = f.header;
@@ -63,6 +64,7 @@ fn decode(
     let mut nibbles = [0u8; NIBBLES];
     let progress = reading::read_data(
         readings,
+        steps,
         f,
         grid,
         flips,
@@ -115,22 +117,24 @@ fn copy(cells: &[u8], out: &mut [u8])
 // Reads the data of a frame that is there whole, and hands payload and marks out only where all is well.
 fn deliver(
     readings: &[u8; WORDS],
+    steps: &[u64; BITS],
     f: Frame,
     grid: &[[bool; 8]; 12],
     repairs: usize,
-    flips: [u8; FLIPS],
+    flips: u64,
     symbols: &[u16],
     len: usize,
     total: usize,
     out: &mut [u8],
     hurts: &mut [u8],
 ) -> Received
-    requires { ⌜ (now readings ≡ readingTable) × Decodable f (now symbols) len (now grid) repairs flips total × (len ≤ length (now out)) × (total ≤ length (now hurts)) ⌝ }
+    requires { ⌜ (now readings ≡ readingTable) × (now steps ≡ stepTable) × Decodable f (now symbols) len (now grid) repairs flips total × (len ≤ length (now out)) × (total ≤ length (now hurts)) ⌝ }
     ensures { λ r. ⌜ Bodied (dataOf f (now (symbols .entry)) len) f (now (symbols .entry)) len (now (out .entry)) (now (out .exit)) (now (hurts .entry)) (now (hurts .exit)) r ⌝ }
 {
     let mut marks = [0u8; MOST_SYMBOLS];
     let body = decode(
         readings,
+        steps,
         f,
         grid,
         repairs,
@@ -188,16 +192,17 @@ fn admit(f: Frame, symbols: &[u16], len: usize, total: usize, room: usize, marks
 // Reads the frame behind a header that was read.
 fn read_body(
     readings: &[u8; WORDS],
+    steps: &[u64; BITS],
     f: Frame,
     grid: &[[bool; 8]; 12],
     repairs: usize,
-    flips: [u8; FLIPS],
+    flips: u64,
     symbols: &[u16],
     len: usize,
     out: &mut [u8],
     hurts: &mut [u8],
 ) -> Received
-    requires { ⌜ (now readings ≡ readingTable) × Headed f (now symbols) len (now grid) repairs flips ⌝ }
+    requires { ⌜ (now readings ≡ readingTable) × (now steps ≡ stepTable) × Headed f (now symbols) len (now grid) repairs flips ⌝ }
     ensures { λ r. ⌜ Bodied (bodyOf f (now (symbols .entry)) (length (now (out .entry))) (length (now (hurts .entry))) len) f (now (symbols .entry)) len (now (out .entry)) (now (out .exit)) (now (hurts .entry)) (now (hurts .exit)) r ⌝ }
 {
     let total = layout::symbols_of(f, len);
@@ -207,6 +212,7 @@ fn read_body(
         Entry::Passed => {
             deliver(
                 readings,
+                steps,
                 f,
                 grid,
                 repairs,
@@ -221,17 +227,17 @@ fn read_body(
     }
 }
 
-// Reads a frame whose checks before the header are passed. The table of readings is lent from here to header and data,
-// since a constant array is copied at each use.
+// Reads a frame whose checks before the header are passed. The tables of readings and steps are lent from here to header and
+// data, since a constant array is copied at each use.
 fn read_on(sf: u8, low: bool, symbols: &[u16], out: &mut [u8], hurts: &mut [u8]) -> Received
     requires { ⌜ Entered Passed sf (now symbols) ⌝ }
     ensures { λ r. ⌜ Reading sf low (now (symbols .entry)) (now (out .entry)) (now (out .exit)) (now (hurts .entry)) (now (hurts .exit)) r ⌝ }
 {
     let grid = reading::first_grid(sf, symbols);
     let readings = codeword::readings();
-    let opened = opening::header_of(&readings, &grid);
+    let steps = codeword::steps();
+    let opened = opening::header_of(&readings, &steps, &grid);
     let heading = opened.heading;
-    let flips = opened.flips;
     match heading {
         Heading::Refused { number, place } => Received::Refused { number, place },
         Heading::Says(h) => {
@@ -243,10 +249,11 @@ fn read_on(sf: u8, low: bool, symbols: &[u16], out: &mut [u8], hurts: &mut [u8])
             };
             read_body(
                 &readings,
+                &steps,
                 counting::frame_of(s),
                 &grid,
                 opened.repairs,
-                flips,
+                opened.flips,
                 symbols,
                 h.length,
                 out,

@@ -11,11 +11,11 @@ use lib.Seq.{take-at}
 use borrow.Author.Tests.{leb-true, ltb-true, eq-eqb, eqb-true}
 use Rattle.bits.specs.Bit.{bit}
 use Rattle.bits.specs.Search.{first, howMany}
+use Rattle.bits.specs.Sum.{sum}
 use Rattle.bits.specs.Tab.{tab}
-use Rattle.bits.specs.Tally.{sum}
 use Rattle.bits.proofs.Searches.{first-found, howMany-none, howMany-some, howMany-zero}
+use Rattle.bits.proofs.Sums.{sum-parts}
 use Rattle.bits.proofs.Tabs.{length-tab, getD-over}
-use Rattle.bits.proofs.Tallies.{sum-parts}
 use Rattle.codeword.specs.Codeword.{codeword, flipped, readAs, flippedBit}
 use Rattle.codeword.specs.Ranges.{Rate}
 use Rattle.codeword.specs.Found.{Repaired}

@@ -13,7 +13,7 @@ use Rattle.layout.specs.Layout.{rowsOfFirst, blockOf, firstBlock, remaining, la
 use Rattle.layout.specs.Ranges.{Valid}
 use Rattle.layout.proofs.LayoutLaws.{no-later}
 use Rattle.reading.specs.Found.{foundAt}
-use Rattle.reading.specs.Stages.{gridOfSymbols, readRow, rowsFrom, dataFound, laterFound, Walk, listed, flips, Marked}
+use Rattle.reading.specs.Stages.{gridOfSymbols, readRow, rowsFrom, dataFound, laterFound, Walk, flips, bytesOf, Marked}
 use Rattle.reading.proofs.HurtLaws.{marked-none, marked-more}
 use Rattle.reading.proofs.ReadLoop.{walk-range, walk-long, walk-on}
 use Rattle.reading.proofs.ReadingLaws.{walk-same}
@@ -35,8 +35,8 @@ module _ (F : Frame) (symbols : List ℕ) (n : ℕ) {m end r : ℕ} {B : Block} 
       walk-same w (λ i l. row-found F 0 symbols (F .header) i v is (rw is grid) (omega arith) ∙ ap (foundAt F symbols) (omega (arith, zero-fits F v is)))
 
   -- all of them were read, and the symbols of block 0 marked
-  pub first-marked : (old′ : List ℕ) {counts new′ : List ℕ} → m ≤ end → counts ≡ flips (readRow (B .rate) g) (F .header + end) → length old′ ≡ 832
-      → new′ ≡ overAt (B .symbol) 8 (listed counts) old′ → Marked F symbols (F .header + m) 8 new′
+  pub first-marked : (old′ : List ℕ) {counts : ℕ} {new′ : List ℕ} → m ≤ end → counts ≡ flips (readRow (B .rate) g) (F .header + end) → length old′ ≡ 832
+      → new′ ≡ overAt (B .symbol) 8 (bytesOf counts) old′ → Marked F symbols (F .header + m) 8 new′
   unfolding blockOf firstBlock
   first-marked old′ l count long write =
       let (codeword, rate, first, header, high) = zero-fits F v is in
@@ -46,15 +46,15 @@ module _ (F : Frame) (symbols : List ℕ) (n : ℕ) {m end r : ℕ} {B : Block} 
       let columns : B .symbol + (B .rate + 4) ≡ 8 = omega (arith, at, rate) in
       let done : B .codeword + (F .header + m) ≡ F .header + m = omega (arith, codeword) in
       rw (columns, done) at
-      (marked-more F v symbols 0 is (rw is grid) (omega arith) (rw all at count) (omega (arith, rate)) (omega (arith, at)) write begun)
+      (marked-more F v symbols 0 is (rw is grid) (omega arith) high (rw all at count) (omega (arith, rate)) (omega (arith, at)) write begun)
 
   -- one of them can't be read, or the data end there
   pub data-stop : end < B .rows - F .header → Walk (dataFound F symbols) n (F .header) old mid end r
   data-stop l = walk-long first-walk (omega arith) (λ h. omega arith)
 
   -- and where the data end there no block follows
-  pub data-marked : (old′ : List ℕ) {counts new′ : List ℕ} → n ≤ end → end < B .rows - F .header → counts ≡ flips (readRow (B .rate) g) (F .header + end) → length old′ ≡ 832
-      → new′ ≡ overAt (B .symbol) 8 (listed counts) old′ → Marked F symbols (F .header + n) (symbolCount F (F .header + n)) new′
+  pub data-marked : (old′ : List ℕ) {counts : ℕ} {new′ : List ℕ} → n ≤ end → end < B .rows - F .header → counts ≡ flips (readRow (B .rate) g) (F .header + end) → length old′ ≡ 832
+      → new′ ≡ overAt (B .symbol) 8 (bytesOf counts) old′ → Marked F symbols (F .header + n) (symbolCount F (F .header + n)) new′
   unfolding symbolCount rowsOfFirst
   data-marked old′ all l count long write =
       let (codeword, rate, first, header, high) = zero-fits F v is in

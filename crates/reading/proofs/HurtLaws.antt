@@ -1,20 +1,21 @@
 -- In which symbols codewords are repaired: a block's flips, counted row by row, and the frame's marks, block by block.
 -- Assumes nothing.
-use mathlib.Core.Path.{_≡_, refl, sym, ap, ap₂, _∙_}
+use mathlib.Core.Path.{_≡_, refl, sym, ap, _∙_}
 use mathlib.Core.Bool.{Bool, true, false, not, _&&_}
 use mathlib.Core.List.{List}
-use Prim.Native.Nat.{ℕ, _+_, _-_, _≤_, _<_}
+use Prim.Native.Nat.{ℕ, _+_, _-_, _^_, _≤_, _<_}
 use native.Mathlib.Decide.{ℕ-discrete}
 use native.Mathlib.Omega.{arith}
 use lib.Dec.{eqb, ltb}
-use lib.ListN.{length, getD, set}
+use lib.ListN.{length, getD}
 use borrow.Author.Tests.{ltb-true, ltb-false, eq-eqb, ne-eqb}
+use Rattle.bits.specs.Bit.{asBit}
+use Rattle.bits.specs.Bytes.{packed, stepOf}
 use Rattle.bits.specs.Search.{howMany}
-use Rattle.bits.specs.Tab.{overAt, blank}
-use Rattle.bits.specs.Tally.{tallied}
-use Rattle.bits.proofs.Searches.{howMany-add, howMany-cong, howMany-none, howMany-rest}
+use Rattle.bits.specs.Tab.{overAt}
+use Rattle.bits.proofs.Packs.{packed-lt, byte-packed, packed-add, packed-cong}
+use Rattle.bits.proofs.Searches.{howMany-more, howMany-le, howMany-add, howMany-cong, howMany-none, howMany-rest}
 use Rattle.bits.proofs.Tabs.{getD-overAt, getD-overAt-before, length-overAt}
-use Rattle.bits.proofs.Tallies.{tallied-none, tallied-more, tallied-le, getD-tallied}
 use Rattle.codeword.specs.Codeword.{flippedBit, isRepaired}
 use Rattle.codeword.specs.Ranges.{Rate}
 use Rattle.codeword.specs.Found.{Found, Taken, Repaired, Unreadable}
@@ -25,61 +26,53 @@ use Rattle.layout.specs.Layout.{blockOf, blockOfCodeword}
 use Rattle.layout.specs.Ranges.{Valid}
 use Rattle.layout.proofs.LayoutLaws.{rate-fits, codeword-in, symbols-before}
 use Rattle.reading.specs.Found.{foundInBlock, foundAt, repairedAt, symbolOfBit, repairedIn, hurtAt}
-use Rattle.reading.specs.Stages.{gridOfSymbols, readRow, rowsFrom, listed, flips, Marked}
+use Rattle.reading.specs.Stages.{gridOfSymbols, readRow, rowsFrom, flips, bytesOf, Marked}
 use Rattle.reading.proofs.ReadLoop.{Clear}
 use Rattle.reading.proofs.ReadingLaws.{word-lt}
 use Rattle.reading.proofs.RowLaws.{row-found, row-lt}
 
--- no row is counted yet, one more is, and no count passes their number
-pub flips-none : (found : ℕ → Found) → blank 9 0 ≡ flips found 0
-unfolding flips
-flips-none found = tallied-none 9 _
+-- no row is counted yet, one more is, and the number stays small
+pub flips-none : (found : ℕ → Found) → 0 ≡ flips found 0
+unfolding flips packed howMany
+flips-none found = refl
 
-module _ (found : ℕ → Found) (m : ℕ) {l : List ℕ} (e : l ≡ flips found m) where
-  pub flips-more : {j : ℕ} → j ≡ flippedBit (found m) → j < 9 → set l j (getD l j 0 + 1) ≡ flips found (m + 1)
-  unfolding flips
-  flips-more q h = tallied-more 9 (λ i. flippedBit (found i)) m e q h
+module _ (found : ℕ → Found) (m : ℕ) where
+  count : ℕ → ℕ
+  count j = howMany (λ i. eqb (flippedBit (found i)) j) m
 
-  pub flips-le : (j : ℕ) → j < 9 → getD l j 0 ≤ m
-  unfolding flips
-  flips-le j h = rw e (tallied-le 9 (λ i. flippedBit (found i)) m j h)
+  pub flips-more : {l b : ℕ} → l ≡ flips found m → b ≡ flippedBit (found m) → l + stepOf 8 b ≡ flips found (m + 1)
+  unfolding flips stepOf count
+  flips-more {l} {b} e q =
+      ap (λ (x : ℕ). x + packed 8 (λ k. asBit (eqb b k))) e ∙ packed-add 8 count (λ k. asBit (eqb b k))
+      ∙ packed-cong 8 _ _ (λ k h. howMany-more (λ i. eqb (flippedBit (found i)) k) m refl (ap (λ (x : ℕ). asBit (eqb x k)) q))
 
--- of n rows that can be read those with no repair are counted in cell 8, and the others are repaired
-module _ (found : ℕ → Found) (from n : ℕ) {l k : List ℕ} (before : l ≡ flips found from) (after : k ≡ flips found (from + n))
-    (good : (i : ℕ) → i < n → isRepaired (found (from + i)) ≡ not (eqb (flippedBit (found (from + i))) 8)) where
-  clean : ℕ
-  clean = howMany (λ i. eqb (flippedBit (found (from + i))) 8) n
+  count-lt : m ≤ 255 → (j : ℕ) → count j < 256
+  unfolding count
+  count-lt h j = omega (arith, howMany-le (λ i. eqb (flippedBit (found i)) j) m)
 
-  clean-counted : getD k 8 0 ≡ getD l 8 0 + clean
-  unfolding flips clean
-  clean-counted =
-      let p : ℕ → ℕ = λ i. flippedBit (found i) in
-      ap (λ (x : List ℕ). getD x 8 0) after ∙ getD-tallied 9 p (from + n) 8 (omega arith) ∙ howMany-add (λ i. eqb (p i) 8) from n
-      ∙ ap (λ (x : ℕ). x + howMany (λ i. eqb (p (from + i)) 8) n) (sym (ap (λ (x : List ℕ). getD x 8 0) before ∙ getD-tallied 9 p from 8 (omega arith)))
+  pub flips-lt : m ≤ 255 → flips found m < 256 ^ 8
+  unfolding flips count
+  flips-lt h = packed-lt 8 count (count-lt h)
 
-  others : howMany (λ i. isRepaired (found (from + i))) n + clean ≡ n
-  unfolding clean
-  others = rw (howMany-cong _ _ n good) (howMany-rest (λ i. eqb (flippedBit (found (from + i))) 8) n)
+  flips-byte : m ≤ 255 → (j : ℕ) → j < 8 → bytesOf (flips found m) j ≡ howMany (λ i. eqb (flippedBit (found i)) j) m
+  unfolding flips bytesOf count
+  flips-byte h j l = byte-packed 8 count (count-lt h) j l
 
-  pub flips-apart : (getD l 8 0 ≤ getD k 8 0) × (getD k 8 0 - getD l 8 0 ≤ n)
-  flips-apart = omega (arith, clean-counted, others)
-
-  pub flips-repairs : n - (getD k 8 0 - getD l 8 0) ≡ howMany (λ i. isRepaired (found (from + i))) n
-  flips-repairs = omega (arith, clean-counted, others)
-
--- the same of rows of a grid, each of which was read
-module _ (rate : ℕ) (g : List (List Bool)) (from n : ℕ) {l k : List ℕ} {repairs : ℕ} (ok : Rate rate) (before : l ≡ flips (readRow rate g) from)
-    (after : k ≡ flips (readRow rate g) (from + n)) (read : Clear (rowsFrom rate g from) n repairs) where
-  good : (i : ℕ) → i < n → isRepaired (readRow rate g (from + i)) ≡ not (eqb (flippedBit (readRow rate g (from + i))) 8)
+-- of rows that were read those with no flip are counted, and the others are repaired
+module _ (rate : ℕ) (g : List (List Bool)) (from n : ℕ) {clean repairs : ℕ} (ok : Rate rate)
+    (counted : clean ≡ howMany (λ i. eqb (flippedBit (rowsFrom rate g from i)) 8) n) (read : Clear (rowsFrom rate g from) n repairs) where
+  good : (i : ℕ) → i < n → repairedAt (rowsFrom rate g from) i ≡ not (eqb (flippedBit (rowsFrom rate g from i)) 8)
   unfolding readRow rowsFrom
   good i h = repaired-where rate _ ok (row-lt (4 + rate) g (from + i)) (read .good i h)
 
-  pub rows-apart : (getD l 8 0 ≤ getD k 8 0) × (getD k 8 0 - getD l 8 0 ≤ n)
-  rows-apart = flips-apart (readRow rate g) from n before after good
+  all : repairs + clean ≡ n
+  all = rw (read .counts, counted, howMany-cong _ _ n good) (howMany-rest (λ i. eqb (flippedBit (rowsFrom rate g from i)) 8) n)
 
-  pub rows-repairs : n - (getD k 8 0 - getD l 8 0) ≡ repairs
-  unfolding rowsFrom
-  rows-repairs = flips-repairs (readRow rate g) from n before after good ∙ sym (read .counts)
+  pub rows-clean : clean ≤ n
+  rows-clean = omega (arith, all)
+
+  pub rows-repairs : n - clean ≡ repairs
+  rows-repairs = omega (arith, all)
 
 -- a bit that is counted for one of the eight columns is a repair's
 counted : (f : Found) (j : ℕ) → j < 8 → (isRepaired f && eqb (flippedBit f) j) ≡ eqb (flippedBit f) j
@@ -141,8 +134,8 @@ module _ (F : Frame) (v : Valid F) (symbols : List ℕ) where
         at true e = ne-eqb _ t (λ q. omega (arith, flipped-within i e, symbols-before F v b i (rw is at h), ap (λ (x : Block). x .symbol) is))
 
     -- the marks of the codewords before the block, and the block's own counts behind them
-    module _ {m : ℕ} {counts old new : List ℕ} (few : m ≤ B .rows) (count : counts ≡ flips (readRow (B .rate) g) m) (rate : B .rate ≤ 4)
-        (room : B .symbol + 8 ≤ 832) (write : new ≡ overAt (B .symbol) 8 (listed counts) old) (marks : Marked F symbols (B .codeword) (B .symbol) old) where
+    module _ {m counts : ℕ} {old new : List ℕ} (few : m ≤ B .rows) (most : B .rows ≤ 12) (count : counts ≡ flips (readRow (B .rate) g) m) (rate : B .rate ≤ 4)
+        (room : B .symbol + 8 ≤ 832) (write : new ≡ overAt (B .symbol) 8 (bytesOf counts) old) (marks : Marked F symbols (B .codeword) (B .symbol) old) where
       hurt-sum : (t : ℕ) → hurtAt F symbols (B .codeword + m) t ≡ hurtAt F symbols (B .codeword) t + howMany (λ i. repairedIn F symbols t (B .codeword + i)) m
       unfolding hurtAt
       hurt-sum t = howMany-add (repairedIn F symbols t) (B .codeword) m
@@ -154,11 +147,11 @@ module _ (F : Frame) (v : Valid F) (symbols : List ℕ) where
           omega (arith, kept, hurt-sum t, howMany-none (λ i. repairedIn F symbols t (B .codeword + i)) m (λ i l. none-before t i h (omega arith)))
 
       cell-here : (j : ℕ) → j < 8 → getD new (B .symbol + j) 0 ≡ hurtAt F symbols (B .codeword + m) (B .symbol + j)
-      unfolding hurtAt listed flips
+      unfolding hurtAt
       cell-here j h =
           let own : getD new (B .symbol + j) 0 ≡ howMany (λ i. eqb (flippedBit (readRow (B .rate) g i)) j) m
           = ap (λ (l : List ℕ). getD l (B .symbol + j) 0) write ∙ getD-overAt (B .symbol) 8 _ old 0 (omega (arith, marks .long)) j h
-          ∙ ap (λ (l : List ℕ). getD l j 0) count ∙ getD-tallied 9 (λ i. flippedBit (readRow (B .rate) g i)) m j (omega arith) in
+          ∙ ap (λ (x : ℕ). bytesOf x j) count ∙ flips-byte (readRow (B .rate) g) m (omega arith) j h in
           let same = howMany-cong (λ i. repairedIn F symbols (B .symbol + j) (B .codeword + i)) _ m (λ i l. in-block i j (omega arith) h) in
           let none = howMany-none (repairedIn F symbols (B .symbol + j)) (B .codeword) (λ i l. none-behind (B .symbol + j) i (omega arith) l) in
           own ∙ omega (arith, same, none, hurt-sum (B .symbol + j))
@@ -166,7 +159,7 @@ module _ (F : Frame) (v : Valid F) (symbols : List ℕ) where
       pub marked-more : Marked F symbols (B .codeword + m) (B .symbol + (B .rate + 4)) new
       marked-more =
           record {
-            long = ap length write ∙ length-overAt (B .symbol) 8 (listed counts) old (omega (arith, marks .long)) ∙ marks .long;
+            long = ap length write ∙ length-overAt (B .symbol) 8 (bytesOf counts) old (omega (arith, marks .long)) ∙ marks .long;
             cells = λ t h. at t h (ltb t (B .symbol)) refl;
           }
         where

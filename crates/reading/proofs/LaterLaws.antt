@@ -13,7 +13,7 @@ use Rattle.layout.specs.Layout.{rowsOfFirst, blockOf, remaining, laterBlocks, s
 use Rattle.layout.specs.Ranges.{Valid, Fits}
 use Rattle.layout.proofs.LayoutLaws.{product-le, block-later, block-fits, later-le, codeword-next, symbol-next, codeword-end, codeword-within, symbol-end, symbols-below}
 use Rattle.reading.specs.Found.{foundAt}
-use Rattle.reading.specs.Stages.{gridOfSymbols, readRow, rowsFrom, laterFound, Walk, listed, flips, Marked}
+use Rattle.reading.specs.Stages.{gridOfSymbols, readRow, rowsFrom, laterFound, Walk, flips, bytesOf, Marked}
 use Rattle.reading.proofs.HurtLaws.{marked-more}
 use Rattle.reading.proofs.ReadLoop.{walk-none, walk-range, walk-le, walk-length, walk-long, walk-on}
 use Rattle.reading.proofs.RowLaws.{row-found}
@@ -106,13 +106,13 @@ module _ {F : Frame} {symbols : List ℕ} {n b m end r s : ℕ} {B : Block} {g :
       (λ i l. row-found F b symbols 0 i (q .valid) (q .is) grid (omega arith) ∙ ap (foundAt F symbols) (omega (arith, q .behind)))
 
   -- all its rows were read, and its symbols marked
-  module _ {counts hurts′ : List ℕ} (count : counts ≡ flips (readRow (B .rate) g) (0 + end)) (write : hurts′ ≡ overAt (B .symbol) 8 (listed counts) hurts) where
+  module _ {counts : ℕ} {hurts′ : List ℕ} (count : counts ≡ flips (readRow (B .rate) g) (0 + end)) (write : hurts′ ≡ overAt (B .symbol) 8 (bytesOf counts) hurts) where
     block-marked : m ≤ end → Marked F symbols (B .codeword + m) (B .symbol + (B .rate + 4)) hurts′
     block-marked l =
         let all : 0 + end ≡ m = omega (arith, walk-range w) in
         let here : min (blockOf F b .codeword) n ≡ B .codeword = rw (← q .is) (omega (arith, q .below)) in
         let first : blockOf F b .symbol ≡ B .symbol = rw (← q .is) in
-        marked-more F (q .valid) symbols b (q .is) grid (omega arith) (rw all at count) (q .fits .rate-high) (q .room) write (rw (here, first) at (p .marks))
+        marked-more F (q .valid) symbols b (q .is) grid (omega arith) (q .fits .rows-high) (rw all at count) (q .fits .rate-high) (q .room) write (rw (here, first) at (p .marks))
 
     pub sofar-more : m ≤ end → Sofar F symbols n (b + 1) old new (r + s) hurts′
     unfolding before

@@ -4,10 +4,11 @@ use mathlib.Core.Bool.{Bool}
 use mathlib.Core.List.{List}
 use mathlib.Core.Path.{_≡_}
 use Prim.Native.Nat.{ℕ, _+_, _<_}
+use lib.Dec.{eqb}
 use lib.ListN.{length, getD}
+use Rattle.bits.specs.Bytes.{byteAt, packed}
 use Rattle.bits.specs.Search.{first, howMany}
 use Rattle.bits.specs.Tab.{over, overAt, blank}
-use Rattle.bits.specs.Tally.{tallied}
 use Rattle.block.specs.Block.{wordOfNumber}
 use Rattle.block.specs.Grid.{gridOfWords, codewordOfGrid}
 use Rattle.codeword.specs.Codeword.{readAs, flippedBit}
@@ -50,9 +51,13 @@ pub record Walk (found : ℕ → Found) (n at : ℕ) (old new : List ℕ) (end r
 unfoldable pub listed : List ℕ → ℕ → ℕ
 listed l i = getD l i 0
 
--- how often each bit is flipped in the first n codewords of a block, in cells 0 to 7; cell 8 counts those with no repair
-unfoldable pub flips : (ℕ → Found) → ℕ → List ℕ
-flips found n = tallied 9 (λ i. flippedBit (found i)) n
+-- how often each bit is flipped in the first n codewords of a block, as a number with a byte for each bit
+unfoldable pub flips : (ℕ → Found) → ℕ → ℕ
+flips found n = packed 8 (λ j. howMany (λ i. eqb (flippedBit (found i)) j) n)
+
+-- the bytes of such a number
+unfoldable pub bytesOf : ℕ → ℕ → ℕ
+bytesOf n j = byteAt j n
 
 -- of 832 cells each below the end tells how many of the first n codewords are repaired in its symbol
 pub record Marked (F : Frame) (symbols : List ℕ) (n end : ℕ) (hurts : List ℕ) : Type 0 where

@@ -1,14 +1,15 @@
 // From received symbols to a frame's nibbles, block by block, and from nibbles to the payload.
 ghost use mathlib.Core.Path.{_≡_};
-ghost use Prim.Native.Nat.{ℕ, _+_, _-_, _≤_, _<_, min};
+ghost use Prim.Native.Nat.{ℕ, _+_, _≤_, _<_, min};
 ghost use lib.ListN.{length, getD};
 ghost use Rattle.bits.specs.Tab.{over, overAt, blank};
 ghost use Rattle.codeword.specs.Ranges.{Rate};
-ghost use Rattle.codeword.specs.Readings.{readingTable};
+ghost use Rattle.codeword.specs.Readings.{readingTable, stepTable};
 ghost use Rattle.layout.specs.Layout.{rowsOfFirst, firstBlock, remaining, symbolCount};
 ghost use Rattle.layout.specs.Ranges.{Valid, Fits};
 ghost use Rattle.reading.specs.Payload.{byteOfNibbles, payloadByte, sentChecksum};
-ghost use Rattle.reading.specs.Stages.{symbolWord, gridOfSymbols, readRow, rowsFrom, dataFound, laterFound, Walk, listed, flips, Marked};
+ghost use Rattle.reading.specs.Stages.{symbolWord, gridOfSymbols, readRow, rowsFrom, dataFound, laterFound, Walk, listed, flips, bytesOf, Marked};
+use codeword::BITS;
 use codeword::WORDS;
 use layout::Block;
 use layout::Frame;
@@ -18,13 +19,17 @@ use layout::MOST_SYMBOLS;
 // The most nibbles that a frame has.
 pub const NIBBLES: usize = 519;
 
-// The counts of a block: how often each of a codeword's 8 bits was flipped, and how many codewords had no repair.
-pub const FLIPS: usize = 9;
-
 // How far a run of codewords was read, and the repairs on the way.
 pub struct Progress {
     pub end: usize,
     pub repairs: usize,
+}
+
+// The same of rows of a block's grid, and how often each bit of its rows was flipped so far, in a byte each.
+pub struct Rows {
+    pub end: usize,
+    pub repairs: usize,
+    pub flips: u64,
 }
 
 // The smaller of the two.
@@ -66,71 +71,71 @@ pub fn first_grid(sf: u8, symbols: &[u16]) -> [[bool; 8]; 12]
     grid_of_block(layout::first_block(sf), symbols)
 }
 
-// How many of n codewords were repaired, from the counts of those with no repair before them and behind them.
-fn repaired(n: usize, before: u8, after: u8) -> usize
-    requires { ⌜ (before ≤ after) × (after - before ≤ n) ⌝ }
-    ensures { λ r. ⌜ r ≡ n - (after - before) ⌝ }
-{
-    n - bits::wide(after - before)
-}
-
 // Reads n codewords of a block's grid, from its row `from` on, into the nibbles from the place at on, up to the first that
 // can't be read. The flips of the rows before are counted on.
 pub fn read_rows(
     readings: &[u8; WORDS],
+    steps: &[u64; BITS],
     rate: u8,
     g: &[[bool; 8]; 12],
     from: usize,
     n: usize,
     at: usize,
+    before: u64,
     nibbles: &mut [u8; NIBBLES],
-    counts: &mut [u8; FLIPS],
-) -> Progress
-    requires { ⌜ (now readings ≡ readingTable) × Rate rate × (from + n ≤ 12) × (at + n ≤ 519) × (length (now nibbles) ≡ 519) × (now counts ≡ flips (readRow rate (now g)) from) ⌝ }
-    ensures { λ r. ⌜ Walk (rowsFrom rate (now (g .entry)) from) n at (now (nibbles .entry)) (now (nibbles .exit)) (r .end) (r .repairs) × (now (counts .exit) ≡ flips (readRow rate (now (g .entry))) (from + r .end)) ⌝ }
+) -> Rows
+    requires { ⌜ (now readings ≡ readingTable) × (now steps ≡ stepTable) × Rate rate × (from + n ≤ 12) × (at + n ≤ 519) × (length (now nibbles) ≡ 519) × (before ≡ flips (readRow rate (now g)) from) ⌝ }
+    ensures { λ r. ⌜ Walk (rowsFrom rate (now (g .entry)) from) n at (now (nibbles .entry)) (now (nibbles .exit)) (r .end) (r .repairs) × (r .flips ≡ flips (readRow rate (now (g .entry))) (from + r .end)) ⌝ }
 {
     let columns = 4 + bits::wide(rate);
-    let clean = counts[8];
+    let mut clean = 0;
+    let mut flips = before;
     for i in 0..n {
         let word = block::codeword_of_grid(columns, g, from + i);
         let reading = codeword::read_word(readings, rate, word);
         if codeword::unreadable(reading) {
-            return Progress {
+            return Rows {
                 end: i,
-                repairs: repaired(i, clean, counts[8]),
+                repairs: i - clean,
+                flips,
             };
         }
         nibbles[at + i] = codeword::nibble(reading);
+        clean += bits::wide(codeword::clean(reading));
         let bit = bits::wide(codeword::flipped_bit(reading));
-        counts[bit] += 1;
+        flips += steps[bit];
     }
-    Progress {
+    Rows {
         end: n,
-        repairs: repaired(n, clean, counts[8]),
+        repairs: n - clean,
+        flips,
     }
 }
 
-// Writes a block's counts to the cells of its symbols, from the place at on. It writes eight, which is faster than as many as
+// Writes a block's flips to the cells of its symbols, from the place at on. It writes eight, which is faster than as many as
 // there are columns; what stands behind the block's own is written again with the next block.
-fn mark(counts: &[u8; FLIPS], at: usize, hurts: &mut [u8; MOST_SYMBOLS])
+fn mark(flips: u64, at: usize, hurts: &mut [u8; MOST_SYMBOLS])
     requires { ⌜ (at + 8 ≤ 832) × (length (now hurts) ≡ 832) ⌝ }
-    ensures { λ _. ⌜ now (hurts .exit) ≡ overAt at 8 (listed (now (counts .entry))) (now (hurts .entry)) ⌝ }
+    ensures { λ _. ⌜ now (hurts .exit) ≡ overAt at 8 (bytesOf flips) (now (hurts .entry)) ⌝ }
 {
+    let mut rest = flips;
     for j in 0..8usize {
-        hurts[at + j] = counts[j];
+        hurts[at + j] = (rest % 256) as u8;
+        rest /= 256;
     }
 }
 
 // Reads the codewords behind block 0, in a frame of n codewords, up to the first that can't be read, and marks their symbols.
 fn read_later(
     readings: &[u8; WORDS],
+    steps: &[u64; BITS],
     f: Frame,
     symbols: &[u16],
     n: usize,
     nibbles: &mut [u8; NIBBLES],
     hurts: &mut [u8; MOST_SYMBOLS],
 ) -> Progress
-    requires { ⌜ (now readings ≡ readingTable) × Valid f × (rowsOfFirst (f .sf) ≤ n) × (n ≤ 519) × (symbolCount f n ≤ length (now symbols)) × (length (now nibbles) ≡ 519) × Marked f (now symbols) (rowsOfFirst (f .sf)) 8 (now hurts) ⌝ }
+    requires { ⌜ (now readings ≡ readingTable) × (now steps ≡ stepTable) × Valid f × (rowsOfFirst (f .sf) ≤ n) × (n ≤ 519) × (symbolCount f n ≤ length (now symbols)) × (length (now nibbles) ≡ 519) × Marked f (now symbols) (rowsOfFirst (f .sf)) 8 (now hurts) ⌝ }
     ensures { λ r. ⌜ Walk (laterFound f (now (symbols .entry))) (remaining f n) (rowsOfFirst (f .sf)) (now (nibbles .entry)) (now (nibbles .exit)) (r .end) (r .repairs) × (remaining f n ≤ r .end → Marked f (now (symbols .entry)) n (symbolCount f n) (now (hurts .exit))) ⌝ }
 {
     let start = layout::first_block(f.sf).rows;
@@ -141,9 +146,8 @@ fn read_later(
         let at = b.codeword;
         let rows = least(b.rows, n - at);
         let g = grid_of_block(b, symbols);
-        let mut counts = [0u8; FLIPS];
-        let p = read_rows(readings, b.rate, &g, 0, rows, at, nibbles, &mut counts);
-        mark(&counts, b.symbol, hurts);
+        let p = read_rows(readings, steps, b.rate, &g, 0, rows, at, 0, nibbles);
+        mark(p.flips, b.symbol, hurts);
         repairs += p.repairs;
         if p.end < rows {
             return Progress {
@@ -159,40 +163,44 @@ fn read_later(
 }
 
 // Reads the n data codewords of a frame, those behind its header, up to the first that can't be read, and marks the frame's
-// symbols; `first` is the grid of block 0, and `before` has the counts of its header's codewords.
+// symbols; `first` is the grid of block 0, and `before` has the flips of its header's codewords.
 pub fn read_data(
     readings: &[u8; WORDS],
+    steps: &[u64; BITS],
     f: Frame,
     first: &[[bool; 8]; 12],
-    before: [u8; FLIPS],
+    before: u64,
     symbols: &[u16],
     n: usize,
     nibbles: &mut [u8; NIBBLES],
     hurts: &mut [u8; MOST_SYMBOLS],
 ) -> Progress
-    requires { ⌜ (now readings ≡ readingTable) × Valid f × (now first ≡ gridOfSymbols (firstBlock (f .sf)) (now symbols)) × (before ≡ flips (readRow 4 (now first)) (f .header)) × (f .header + n ≤ 519) × (symbolCount f (f .header + n) ≤ length (now symbols)) × (length (now nibbles) ≡ 519) × (length (now hurts) ≡ 832) ⌝ }
+    requires { ⌜ (now readings ≡ readingTable) × (now steps ≡ stepTable) × Valid f × (now first ≡ gridOfSymbols (firstBlock (f .sf)) (now symbols)) × (before ≡ flips (readRow 4 (now first)) (f .header)) × (f .header + n ≤ 519) × (symbolCount f (f .header + n) ≤ length (now symbols)) × (length (now nibbles) ≡ 519) × (length (now hurts) ≡ 832) ⌝ }
     ensures { λ r. ⌜ Walk (dataFound f (now (symbols .entry))) n (f .header) (now (nibbles .entry)) (now (nibbles .exit)) (r .end) (r .repairs) × (n ≤ r .end → Marked f (now (symbols .entry)) (f .header + n) (symbolCount f (f .header + n)) (now (hurts .exit))) ⌝ }
 {
     let header = f.header;
     let b = layout::first_block(f.sf);
     let inside = b.rows - header;
     let rows = least(inside, n);
-    let mut counts = before;
     let p = read_rows(
         readings,
+        steps,
         b.rate,
         first,
         header,
         rows,
         header,
+        before,
         nibbles,
-        &mut counts,
     );
-    mark(&counts, b.symbol, hurts);
+    mark(p.flips, b.symbol, hurts);
     if p.end < inside {
-        return p;
+        return Progress {
+            end: p.end,
+            repairs: p.repairs,
+        };
     }
-    let rest = read_later(readings, f, symbols, header + n, nibbles, hurts);
+    let rest = read_later(readings, steps, f, symbols, header + n, nibbles, hurts);
     Progress {
         end: inside + rest.end,
         repairs: p.repairs + rest.repairs,

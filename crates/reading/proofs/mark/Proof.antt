@@ -1,24 +1,28 @@
--- Eight cells, one after the other.
+-- Eight cells, one after the other: the bytes of the number, from the lowest on.
 use native.Mathlib.Omega.{arith}
-use Prim.Native.Nat.{_≤_, _-_}
-use mathlib.Core.Path.{refl}
+use Prim.Native.Nat.{ℕ, suc, _≤_, _-_, _+_}
+use mathlib.Core.Path.{_≡_, refl, ap, _∙_}
+use Rattle.bits.specs.Bytes.{byteAt}
 use Rattle.bits.proofs.Fill.{FilledAt, filledAt-none, filledAt-more, filledAt-end}
-use Rattle.reading.specs.Stages.{listed}
+use Rattle.reading.specs.Stages.{bytesOf}
 use borrow.Author.Needs.{needs}
 use Rattle.reading.proofs.mark.Statement.{statement}
 use Rattle.reading.proofs.mark.Tie as tie
 
+-- what is left has the bytes from j on
 abbrev Inv-loop : tie.InvT-loop
-Inv-loop counts at hurts₀ j₀ hurts j = (j ≤ 8) × FilledAt (listed counts) hurts₀ at j hurts
+Inv-loop flips at hurts₀ rest₀ j₀ hurts rest j =
+    (j ≤ 8) × FilledAt (bytesOf flips) hurts₀ at j hurts × ((k : ℕ) → byteAt k rest ≡ bytesOf flips (j + k))
 
 abbrev μ-loop : tie.MeasureT-loop
-μ-loop counts at hurts₀ j₀ hurts j = 8 - j
+μ-loop flips at hurts₀ rest₀ j₀ hurts rest j = 8 - j
 
 loop-holds : tie.Need-loop-holds Inv-loop μ-loop
-loop-holds c = (search needs, filledAt-none _ _ _ (search needs))
+unfolding bytesOf
+loop-holds c = (search needs, filledAt-none _ _ _ (search needs), λ k. ap (λ (x : ℕ). byteAt x (c .args .flips)) (omega arith))
 
-element-copy-out-hurts : tie.Need-element-copy-out-hurts Inv-loop μ-loop
-element-copy-out-hurts c = search needs
+cast-hurts : tie.Need-cast-hurts Inv-loop μ-loop
+cast-hurts c = search needs
 
 add-hurts : tie.Need-add-hurts Inv-loop μ-loop
 add-hurts c = search needs
@@ -33,8 +37,12 @@ loop-less : tie.Need-loop-less Inv-loop μ-loop
 loop-less c = search needs
 
 loop-again : tie.Need-loop-again Inv-loop μ-loop
-unfolding listed
-loop-again c = (search needs, filledAt-more (c .before .before .loop .inv .1) (search needs) refl)
+unfolding byteAt
+loop-again c = let l = c .before .loop in (
+  search needs,
+  filledAt-more (l .inv .1) (search needs) (l .inv .2 0 ∙ ap (bytesOf _) (omega arith)),
+  λ k. l .inv .2 (suc k) ∙ ap (bytesOf _) (omega arith),
+)
 
 returns : tie.Need-returns Inv-loop μ-loop
 returns c = filledAt-end (c .before .loop .inv .1) (omega arith)
@@ -46,7 +54,7 @@ mark-spec =
     Inv-loop
     μ-loop
     loop-holds
-    element-copy-out-hurts
+    cast-hurts
     add-hurts
     element-write-hurts
     add-j

@@ -16,20 +16,20 @@ abbrev begin : tie.After-first-block → tie.Start
 begin c = c .before .before
 
 abbrev zero : tie.After-read-rows → tie.After-first-block
-zero c = c .before .before .before .before .before
+zero c = c .before .before .before .before
 
 abbrev rows : tie.After-mark → tie.After-read-rows
-rows c = c .before .before .before
+rows c = c .before .before
 
 fits : (c : tie.After-first-block) →
     let F = begin c .args .f in
     let b = c .first-block .result in
     (b .codeword ≡ 0) × (b .rate ≡ 4) × (b .rows ≡ rowsOfFirst (F .sf)) × (F .header ≤ b .rows) × (b .rows ≤ 12)
-fits c = zero-fits _ (begin c .pre .1) (c .first-block .ensures)
+fits c = zero-fits _ (begin c .pre .2) (c .first-block .ensures)
 
 -- there is room for all codewords
 room : (c : tie.Start) → c .args .f .header + c .args .n ≤ length (c .args .nibbles .now)
-room c = omega (arith, c .pre .4, c .pre .6)
+room c = omega (arith, c .pre .5, c .pre .7)
 
 first-block-requires : tie.Need-first-block-requires
 first-block-requires c κs = search needs
@@ -41,14 +41,15 @@ least-requires : tie.Need-least-requires
 least-requires c κs = search needs
 
 read-rows-requires : tie.Need-read-rows-requires
-read-rows-requires c κs = let z = c .before .before .before .before in
+read-rows-requires c κs = let z = c .before .before .before in
     let p = begin z .pre in (
       p .0,
+      p .1,
       record { low = omega (arith, fits z); high = omega (arith, fits z) },
-      omega (arith, fits z, c .before .before .least .ensures),
-      omega (arith, c .before .before .least .ensures, p .4),
-      p .6,
-      rw (fits z .1) (p .3),
+      omega (arith, fits z, c .before .least .ensures),
+      omega (arith, c .before .least .ensures, p .5),
+      p .7,
+      rw (fits z .1) (p .4),
     )
 
 mark-room : (c : tie.After-read-rows) → zero c .first-block .result .symbol + 8 ≤ 832
@@ -58,16 +59,16 @@ mark-room c =
     omega (arith, at)
 
 mark-requires : tie.Need-mark-requires
-mark-requires c κs = (mark-room (c .before .before), begin (zero (c .before .before)) .pre .7)
+mark-requires c κs = (mark-room (c .before), begin (zero (c .before)) .pre .8)
 
 returns : tie.Need-returns
 returns c = let m = c .before .before in
     let w = rows m in
     let z = zero w in
     let p = begin z .pre in
-    let least = w .before .before .before .least .ensures in (
-      data-stop _ _ _ (p .1) (z .first-block .ensures) (p .2) (w .read-rows .ensures .0) least (c .if1 .taken),
-      λ h. data-marked _ _ _ (p .1) (z .first-block .ensures) (p .2) (w .read-rows .ensures .0) least _ h (c .if1 .taken) (w .read-rows .ensures .1) (p .7) (m .mark .ensures),
+    let least = w .before .before .least .ensures in (
+      data-stop _ _ _ (p .2) (z .first-block .ensures) (p .3) (w .read-rows .ensures .0) least (c .if1 .taken),
+      λ h. data-marked _ _ _ (p .2) (z .first-block .ensures) (p .3) (w .read-rows .ensures .0) least _ h (c .if1 .taken) (w .read-rows .ensures .1) (p .8) (m .mark .ensures),
     )
 
 add-read-later : tie.Need-add-read-later
@@ -79,29 +80,30 @@ read-later-requires c κs = let e = c .before .before in
     let w = rows m in
     let z = zero w in
     let p = begin z .pre in
-    let least = w .before .before .before .least .ensures in
-    let all : begin z .args .f .header + w .before .before .before .least .result ≡ rowsOfFirst (begin z .args .f .sf)
+    let least = w .before .before .least .ensures in
+    let all : begin z .args .f .header + w .before .before .least .result ≡ rowsOfFirst (begin z .args .f .sf)
     = omega (arith, fits z, least, e .if1 .left, walk-range (w .read-rows .ensures .0)) in (
       p .0,
       p .1,
+      p .2,
       omega (arith, fits z, walk-range (w .read-rows .ensures .0), least, e .if1 .left),
-      p .4,
       p .5,
-      walk-length (w .read-rows .ensures .0) (omega (arith, least, room (begin z))) ∙ p .6,
-      rw all at (first-marked _ _ _ (p .1) (z .first-block .ensures) (p .2) (w .read-rows .ensures .0) least _ (omega (arith, least, e .if1 .left)) (w .read-rows .ensures .1) (p .7) (m .mark .ensures)),
+      p .6,
+      walk-length (w .read-rows .ensures .0) (omega (arith, least, room (begin z))) ∙ p .7,
+      rw all at (first-marked _ _ _ (p .2) (z .first-block .ensures) (p .3) (w .read-rows .ensures .0) least _ (omega (arith, least, e .if1 .left)) (w .read-rows .ensures .1) (p .8) (m .mark .ensures)),
     )
 
-add-t22 : tie.Need-add-t22
+add-t20 : tie.Need-add-t20
 unfolding remaining
-add-t22 c =
+add-t20 c =
     let l = c .before in
     let w = rows (l .before .before .before .before .before) in
     let z = zero w in
-    omega (arith, fits z, walk-range (l .read-later .ensures .0), begin z .pre .4)
+    omega (arith, fits z, walk-range (l .read-later .ensures .0), begin z .pre .5)
 
-add-t25 : tie.Need-add-t25
+add-t23 : tie.Need-add-t23
 unfolding remaining
-add-t25 c =
+add-t23 c =
     let l = c .before .before .before in
     let w = rows (l .before .before .before .before .before) in
     omega (
@@ -109,8 +111,8 @@ add-t25 c =
       walk-le (w .read-rows .ensures .0),
       walk-le (l .read-later .ensures .0),
       walk-range (l .read-later .ensures .0),
-      w .before .before .before .least .ensures,
-      begin (zero w) .pre .4,
+      w .before .before .least .ensures,
+      begin (zero w) .pre .5,
     )
 
 returns-2 : tie.Need-returns-2
@@ -121,7 +123,7 @@ returns-2 c =
     let w = rows (e .before .before) in
     let z = zero w in
     let p = begin z .pre in (
-      data-on _ _ _ (p .1) (z .first-block .ensures) (p .2) (w .read-rows .ensures .0) (w .before .before .before .least .ensures) (e .if1 .left) (room (begin z)) (l .read-later .ensures .0),
+      data-on _ _ _ (p .2) (z .first-block .ensures) (p .3) (w .read-rows .ensures .0) (w .before .before .least .ensures) (e .if1 .left) (room (begin z)) (l .read-later .ensures .0),
       λ h. l .read-later .ensures .1 (omega (arith, fits z)),
     )
 
@@ -137,6 +139,6 @@ read-data-spec =
     returns
     add-read-later
     read-later-requires
-    add-t22
-    add-t25
+    add-t20
+    add-t23
     returns-2)

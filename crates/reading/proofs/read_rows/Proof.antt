@@ -1,44 +1,48 @@
--- Each row that can be read adds its nibble and its flip; the first that can't ends the run: a loop over the rows. The repairs are
--- those rows that were not counted as having none.
+-- Each row that can be read adds its nibble and its flip, or is counted as having none; the first that can't ends the run: a loop
+-- over the rows. The repairs are the rows that were not counted so.
 use Prim.Native.Nat.{ℕ, _≤_, _<_, _-_, _+_, _^_, suc-le-suc}
 use mathlib.Core.Path.{_≡_, refl, sym, ap, _∙_}
-use mathlib.Core.Bool.{Bool}
+use mathlib.Core.Bool.{Bool, false}
 use mathlib.Core.List.{List}
 use native.Mathlib.Omega.{arith}
+use lib.Dec.{eqb}
 use lib.ListN.{getD}
 use Rattle.bits.specs.Bit.{asBit}
 use Rattle.bits.specs.Search.{howMany}
 use Rattle.bits.proofs.Fill.{FilledAt, filledAt-none, filledAt-more}
-use Rattle.bits.proofs.Searches.{howMany-more}
-use Rattle.codeword.specs.Codeword.{readAs, nibbleOf, flippedBit, isRepaired, isUnreadable}
+use Rattle.bits.proofs.Searches.{asBit-le, howMany-more}
+use Rattle.codeword.specs.Codeword.{readAs, nibbleOf, flippedBit, isUnreadable}
 use Rattle.codeword.proofs.CodeLaws.{flipped-le}
-use Rattle.codeword.proofs.Lookup.{nibble-is, bit-is, none-is}
+use Rattle.codeword.proofs.Lookup.{nibble-is, bit-is, clean-is, none-is, step-is}
 use Rattle.reading.specs.Found.{repairedAt, nibbleAt}
 use Rattle.reading.specs.Stages.{readRow, rowsFrom, flips}
-use Rattle.reading.proofs.HurtLaws.{flips-more, flips-le, rows-apart, rows-repairs}
+use Rattle.reading.proofs.HurtLaws.{flips-more, flips-lt, rows-clean, rows-repairs}
 use Rattle.reading.proofs.RowLaws.{row-lt}
 use Rattle.reading.proofs.ReadLoop.{Clear, clear-none, clear-more, walk-stop, walk-end}
 use borrow.Author.Needs.{needs}
 use Rattle.reading.proofs.read_rows.Statement.{statement}
 use Rattle.reading.proofs.read_rows.Tie as tie
 
--- how many of the rows read are repaired
+-- of the first i rows how many are repaired, and how many have no flip
 abbrev repairs : ℕ → List (List Bool) → ℕ → ℕ → ℕ
 repairs rate g from i = howMany (repairedAt (rowsFrom rate g from)) i
 
+abbrev unflipped : ℕ → List (List Bool) → ℕ → ℕ → ℕ
+unflipped rate g from i = howMany (λ k. eqb (flippedBit (rowsFrom rate g from k)) 8) i
+
 abbrev Inv-loop : tie.InvT-loop
-Inv-loop readings rate g from n at nibbles₀ counts₀ columns clean i₀ nibbles counts i =
-    (columns ≡ 4 + rate) × (clean ≡ getD counts₀ 8 0) × (i ≤ n) × Clear (rowsFrom rate g from) i (repairs rate g from i)
+Inv-loop readings steps rate g from n at before nibbles₀ columns clean₀ flips₀ i₀ nibbles clean counts i =
+    (columns ≡ 4 + rate) × (clean ≡ unflipped rate g from i) × (i ≤ n) × Clear (rowsFrom rate g from) i (repairs rate g from i)
     × FilledAt (nibbleAt (rowsFrom rate g from)) nibbles₀ at i nibbles × (counts ≡ flips (readRow rate g) (from + i))
 
 abbrev μ-loop : tie.MeasureT-loop
-μ-loop readings rate g from n at nibbles₀ counts₀ columns clean i₀ nibbles counts i = n - i
+μ-loop readings steps rate g from n at before nibbles₀ columns clean₀ flips₀ i₀ nibbles clean counts i = n - i
 
 -- the beginning, from a turn of the loop
 abbrev start : tie.In-loop Inv-loop μ-loop → tie.Start Inv-loop μ-loop
-start c = c .before .before .before .before
+start c = c .before .before .before
 
--- the row in turn is a word of the rate, and its reading
+-- the row in turn is a word of the rate, and what it is read as
 word-fits : (c : tie.After-codeword-of-grid Inv-loop μ-loop) → c .codeword-of-grid .result < 2 ^ (4 + start (c .before) .args .rate)
 word-fits c = rw (c .codeword-of-grid .ensures, ← c .before .before .loop .inv .0) (row-lt _ _ _)
 
@@ -52,19 +56,37 @@ test : (c : tie.After-unreadable Inv-loop μ-loop) → let g = c .before .before
     isUnreadable (rowsFrom (a .rate) (a .g .now) (a .from) (g .before .before .loop .i)) ≡ c .unreadable .result
 test c =
     let g = c .before .before in
-    sym (c .unreadable .ensures ∙ none-is _ _ (c .before .read-word .ensures) (start (g .before) .pre .1) (word-fits g) ∙ ap isUnreadable (row g))
+    sym (c .unreadable .ensures ∙ none-is _ _ (c .before .read-word .ensures) (start (g .before) .pre .2) (word-fits g) ∙ ap isUnreadable (row g))
 
--- the bit that is counted
-counted : (c : tie.After-wide2 Inv-loop μ-loop) → let g = c .before .before .before .before .before .before in let a = start (g .before) .args in
-    (c .wide2 .result ≡ flippedBit (readRow (a .rate) (a .g .now) (a .from + g .before .before .loop .i))) × (c .wide2 .result < 9)
+-- it can be read
+can : (c : tie.Else1 Inv-loop μ-loop) → let g = c .before .before .before in isUnreadable (readAs (start (g .before) .args .rate) (g .codeword-of-grid .result)) ≡ false
+can c = ap isUnreadable (row (c .before .before .before)) ∙ test (c .before) ∙ c .if1 .left
+
+-- whether it has no flip, and the bit that is counted
+no-flip : (c : tie.After-wide2 Inv-loop μ-loop) → let g = c .before .before .before .before .before .before in let a = start (g .before) .args in
+    c .wide2 .result ≡ asBit (eqb (flippedBit (rowsFrom (a .rate) (a .g .now) (a .from) (g .before .before .loop .i))) 8)
+no-flip c =
+    let e = c .before .before .before in
+    let g = e .before .before .before in
+    c .wide2 .ensures ∙ c .before .clean .ensures ∙ clean-is _ _ (e .before .before .read-word .ensures) (can e) (start (g .before) .pre .2) (word-fits g)
+    ∙ ap (λ x. asBit (eqb (flippedBit x) 8)) (row g)
+
+counted : (c : tie.After-wide3 Inv-loop μ-loop) → let g = c .before .before .before .before .before .before .before .before in let a = start (g .before) .args in
+    (c .wide3 .result ≡ flippedBit (readRow (a .rate) (a .g .now) (a .from + g .before .before .loop .i))) × (c .wide3 .result < 9)
 unfolding rowsFrom
 counted c =
-    let e = c .before .before .before in
-    let u = e .before in
-    let g = u .before .before in
-    let is = c .wide2 .ensures ∙ c .before .flipped-bit .ensures ∙ bit-is _ _ (u .before .read-word .ensures) in
-    let can = ap isUnreadable (row g) ∙ test u ∙ e .if1 .left in
-    (is ∙ ap flippedBit (row g), rw is (suc-le-suc (flipped-le _ _ (start (g .before) .pre .1) (word-fits g) can)))
+    let e = c .before .before .before .before .before in
+    let g = e .before .before .before in
+    let is = c .wide3 .ensures ∙ c .before .flipped-bit .ensures ∙ bit-is _ _ (e .before .before .read-word .ensures) in
+    (is ∙ ap flippedBit (row g), rw is (suc-le-suc (flipped-le _ _ (start (g .before) .pre .2) (word-fits g) (can e))))
+
+-- the flips with this row's
+more : (c : tie.After-wide3 Inv-loop μ-loop) → let l = c .before .before .before .before .before .before .before .before .before .before in let s = l .before .before in
+    l .loop .flips + getD (s .args .steps .now) (c .wide3 .result) 0 ≡ flips (readRow (s .args .rate) (s .args .g .now)) (s .args .from + l .loop .i + 1)
+more c =
+    let l = c .before .before .before .before .before .before .before .before .before .before in
+    let s = l .before .before in
+    ap (λ (x : ℕ). l .loop .flips + x) (step-is (s .pre .1) _ (counted c .1)) ∙ flips-more _ _ (l .loop .inv .5) (counted c .0)
 
 wide-requires : tie.Need-wide-requires Inv-loop μ-loop
 wide-requires c κs = search needs
@@ -72,12 +94,9 @@ wide-requires c κs = search needs
 add-columns : tie.Need-add-columns Inv-loop μ-loop
 add-columns c = search needs
 
-element-copy-out-clean : tie.Need-element-copy-out-clean Inv-loop μ-loop
-element-copy-out-clean c = search needs
-
 loop-holds : tie.Need-loop-holds Inv-loop μ-loop
 unfolding howMany
-loop-holds c = (search needs, refl, search needs, clear-none _, filledAt-none _ _ _ (search needs), c .before .before .pre .5 ∙ ap (flips _) (omega arith))
+loop-holds c = (search needs, refl, search needs, clear-none _, filledAt-none _ _ _ (search needs), c .before .pre .6 ∙ ap (flips _) (omega arith))
 
 add-codeword-of-grid : tie.Need-add-codeword-of-grid Inv-loop μ-loop
 add-codeword-of-grid c = search needs
@@ -91,22 +110,16 @@ read-word-requires c κs = (search needs, search needs, word-fits c)
 unreadable-requires : tie.Need-unreadable-requires Inv-loop μ-loop
 unreadable-requires c κs = search needs
 
-element-copy-out-repaired : tie.Need-element-copy-out-repaired Inv-loop μ-loop
-element-copy-out-repaired c = search needs
-
-repaired-requires : tie.Need-repaired-requires Inv-loop μ-loop
-repaired-requires c κs =
-    let l = c .before .before .before .before .before .before in
-    let s = l .before .before .before in
-    rw (l .loop .inv .1) (rows-apart _ _ _ _ (s .pre .1) (s .pre .5) (l .loop .inv .5) (l .loop .inv .3))
+sub-t21 : tie.Need-sub-t21 Inv-loop μ-loop
+sub-t21 c =
+    let l = c .before .before .before .before .before in
+    rows-clean _ _ _ _ (l .before .before .pre .2) (l .loop .inv .1) (l .loop .inv .3)
 
 returns : tie.Need-returns Inv-loop μ-loop
 returns c =
-    let l = c .before .before .before .before .before .before .before in
-    let s = l .before .before .before in
-    let is : c .repaired .result ≡ repairs (s .args .rate) (s .args .g .now) (s .args .from) (l .loop .i)
-    = c .repaired .ensures ∙ rw (l .loop .inv .1) (rows-repairs _ _ _ _ (s .pre .1) (s .pre .5) (l .loop .inv .5) (l .loop .inv .3)) in
-    (rw is (walk-stop (l .loop .inv .3) (l .loop .inv .4) (search needs) (test (c .before .before .before) ∙ c .before .before .if1 .taken)), l .loop .inv .5)
+    let l = c .before .before .before .before .before in
+    let is = rows-repairs _ _ _ _ (l .before .before .pre .2) (l .loop .inv .1) (l .loop .inv .3) in
+    (rw is (walk-stop (l .loop .inv .3) (l .loop .inv .4) (search needs) (test (c .before) ∙ c .if1 .taken)), l .loop .inv .5)
 
 nibble-requires : tie.Need-nibble-requires Inv-loop μ-loop
 nibble-requires c κs = search needs
@@ -117,22 +130,38 @@ add-nibbles c = search needs
 element-write-nibbles : tie.Need-element-write-nibbles Inv-loop μ-loop
 element-write-nibbles c = search needs
 
-flipped-bit-requires : tie.Need-flipped-bit-requires Inv-loop μ-loop
-flipped-bit-requires c κs = search needs
+clean-requires : tie.Need-clean-requires Inv-loop μ-loop
+clean-requires c κs = search needs
 
 wide-requires-2 : tie.Need-wide-requires-2 Inv-loop μ-loop
 wide-requires-2 c κs = search needs
 
-element-copy-out-counts : tie.Need-element-copy-out-counts Inv-loop μ-loop
-element-copy-out-counts c = counted c .1
+add-clean : tie.Need-add-clean Inv-loop μ-loop
+add-clean c =
+    let l = c .before .before .before .before .before .before .before .before in
+    let s = l .before .before in
+    let one = asBit-le (eqb (flippedBit (rowsFrom (s .args .rate) (s .args .g .now) (s .args .from) (l .loop .i))) 8) in
+    omega (arith, no-flip c, one, rows-clean _ _ _ _ (s .pre .2) (l .loop .inv .1) (l .loop .inv .3), l .loop .inv .2, s .pre .3)
 
-add-counts : tie.Need-add-counts Inv-loop μ-loop
-add-counts c = let b = c .before in
-    let l = b .before .before .before .before .before .before .before .before in
-    omega (arith, flips-le _ _ (l .loop .inv .5) (b .wide2 .result) (counted b .1), l .loop .inv .2, l .before .before .before .pre .2)
+flipped-bit-requires : tie.Need-flipped-bit-requires Inv-loop μ-loop
+flipped-bit-requires c κs = search needs
 
-element-write-counts : tie.Need-element-write-counts Inv-loop μ-loop
-element-write-counts c = counted (c .before) .1
+wide-requires-3 : tie.Need-wide-requires-3 Inv-loop μ-loop
+wide-requires-3 c κs = search needs
+
+mul-flips : tie.Need-mul-flips Inv-loop μ-loop
+mul-flips c = omega (arith, counted c .1)
+
+element-copy-out-flips : tie.Need-element-copy-out-flips Inv-loop μ-loop
+element-copy-out-flips c = counted c .1
+
+add-flips : tie.Need-add-flips Inv-loop μ-loop
+add-flips c =
+    let l = c .before .before .before .before .before .before .before .before .before .before .before in
+    let s = l .before .before in
+    let below : l .loop .flips + getD (s .args .steps .now) (c .before .wide3 .result) 0 < 18446744073709551616
+    = rw (more (c .before)) (flips-lt _ _ (omega (arith, l .before .before .pre .3, l .loop .inv .2, c .before .before .before .before .before .before .before .before .before .before .loop-test .taken))) in
+    omega (arith, below)
 
 add-i : tie.Need-add-i Inv-loop μ-loop
 add-i c = search needs
@@ -142,36 +171,33 @@ loop-less c = search needs
 
 loop-again : tie.Need-loop-again Inv-loop μ-loop
 loop-again c = let b = c .before in
-    let n = b .before .before in
+    let w = b .before .before in
+    let n = w .before .before in
     let u = n .before .before in
-    let w = u .before in
-    let g = w .before in
+    let g = u .before .before in
     let l = g .before .before .loop in (
       l .inv .0,
-      l .inv .1,
+      howMany-more _ (l .i) (l .inv .1) (no-flip w),
       search needs,
       rw (← howMany-more _ (l .i) refl refl) (clear-more (l .inv .3) (test u ∙ n .before .if1 .left) refl),
-      filledAt-more (l .inv .4) (omega (arith, g .before .loop-test .taken, start (g .before) .pre .3, start (g .before) .pre .4)) (n .nibble .ensures ∙ nibble-is _ _ (w .read-word .ensures) ∙ ap nibbleOf (row g)),
-      flips-more _ _ (l .inv .5) (counted b .0) (counted b .1) ∙ ap (flips _) (omega arith),
+      filledAt-more (l .inv .4) (omega (arith, g .before .loop-test .taken, start (g .before) .pre .4, start (g .before) .pre .5))
+          (n .nibble .ensures ∙ nibble-is _ _ (u .before .read-word .ensures) ∙ ap nibbleOf (row g)),
+      more b ∙ ap (flips _) (omega arith),
     )
 
-element-copy-out-repaired-2 : tie.Need-element-copy-out-repaired-2 Inv-loop μ-loop
-element-copy-out-repaired-2 c = search needs
-
-repaired-requires-2 : tie.Need-repaired-requires-2 Inv-loop μ-loop
-repaired-requires-2 c κs =
-    let l = c .before .before in
-    let s = l .before .before .before in
-    let e : l .loop .i ≡ s .args .n = omega arith in
-    rw (l .loop .inv .1, ← e) (rows-apart _ _ _ _ (s .pre .1) (s .pre .5) (l .loop .inv .5) (l .loop .inv .3))
+sub-t17 : tie.Need-sub-t17 Inv-loop μ-loop
+sub-t17 c =
+    let l = c .before in
+    let e : l .loop .i ≡ l .before .before .args .n = omega arith in
+    omega (arith, e, rows-clean _ _ _ _ (l .before .before .pre .2) (l .loop .inv .1) (l .loop .inv .3))
 
 returns-2 : tie.Need-returns-2 Inv-loop μ-loop
 returns-2 c =
-    let l = c .before .before .before in
-    let s = l .before .before .before in
+    let l = c .before in
+    let s = l .before .before in
     let e : l .loop .i ≡ s .args .n = omega arith in
-    let is : c .repaired2 .result ≡ repairs (s .args .rate) (s .args .g .now) (s .args .from) (s .args .n)
-    = c .repaired2 .ensures ∙ rw (l .loop .inv .1, ← e) (rows-repairs _ _ _ _ (s .pre .1) (s .pre .5) (l .loop .inv .5) (l .loop .inv .3)) in
+    let is : s .args .n - l .loop .clean ≡ repairs (s .args .rate) (s .args .g .now) (s .args .from) (s .args .n)
+    = rw (← e) (rows-repairs _ _ _ _ (s .pre .2) (l .loop .inv .1) (l .loop .inv .3)) in
     (rw is (walk-end (rw e at (l .loop .inv .3)) (rw e at (l .loop .inv .4))), rw e at (l .loop .inv .5))
 
 pub read-rows-spec : {M : Type 1} → statement M
@@ -182,26 +208,26 @@ read-rows-spec =
     μ-loop
     wide-requires
     add-columns
-    element-copy-out-clean
     loop-holds
     add-codeword-of-grid
     codeword-of-grid-requires
     read-word-requires
     unreadable-requires
-    element-copy-out-repaired
-    repaired-requires
+    sub-t21
     returns
     nibble-requires
     add-nibbles
     element-write-nibbles
-    flipped-bit-requires
+    clean-requires
     wide-requires-2
-    element-copy-out-counts
-    add-counts
-    element-write-counts
+    add-clean
+    flipped-bit-requires
+    wide-requires-3
+    mul-flips
+    element-copy-out-flips
+    add-flips
     add-i
     loop-less
     loop-again
-    element-copy-out-repaired-2
-    repaired-requires-2
+    sub-t17
     returns-2)

@@ -28,6 +28,9 @@ first-grid-requires c κs =
 readings-requires : tie.Need-readings-requires
 readings-requires c κs = search needs
 
+steps-requires : tie.Need-steps-requires
+steps-requires c κs = search needs
+
 header-of-requires : tie.Need-header-of-requires
 header-of-requires c κs = search needs
 
@@ -36,7 +39,7 @@ returns c = sym (rw (c .before .entry .given .1) at (c .before .before .before .
 
 returns-2 : tie.Need-returns-2
 returns-2 c =
-    let g = c .before .before .before .before in
+    let g = c .before .before .before .before .before .before in
     let (low, high, eight, is) = passed (g .before) in
     c .header-of .ensures .says ∙ header-same _ _ (grid-found _ _ low (g .first-grid .ensures)) ∙ sym is
 
@@ -49,6 +52,7 @@ head-spec =
     enum-told
     first-grid-requires
     readings-requires
+    steps-requires
     header-of-requires
     returns
     returns-2)

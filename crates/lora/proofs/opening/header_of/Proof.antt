@@ -2,7 +2,6 @@
 use mathlib.Core.Path.{_≡_, sym, ap, _∙_}
 use Prim.Native.Nat.{ℕ}
 use native.Mathlib.Omega.{arith}
-use Rattle.bits.specs.Tab.{blank}
 use Rattle.reading.specs.Stages.{flips}
 use Rattle.reading.proofs.HurtLaws.{flips-none}
 use Rattle.reading.proofs.ReadLoop.{walk-range}
@@ -13,8 +12,7 @@ use Rattle.lora.proofs.opening.header_of.Statement.{statement}
 use Rattle.lora.proofs.opening.header_of.Tie as tie
 
 read-rows-requires : tie.Need-read-rows-requires
-unfolding blank
-read-rows-requires c κs = (search needs, search needs, search needs, search needs, search needs, flips-none _)
+read-rows-requires c κs = (search needs, search needs, search needs, search needs, search needs, search needs, flips-none _)
 
 returns : tie.Need-returns
 returns c =
@@ -24,20 +22,20 @@ returns c =
       flipped = λ h e. absurd (let z : _≡_ {A = ℕ} 0 1 = cc in omega arith);
     }
 
-array-read-t15 : tie.Need-array-read-t15
-array-read-t15 c = search needs
+array-read-t13 : tie.Need-array-read-t13
+array-read-t13 c = search needs
 
-array-read-t18 : tie.Need-array-read-t18
-array-read-t18 c = search needs
+array-read-t16 : tie.Need-array-read-t16
+array-read-t16 c = search needs
 
-array-read-t21 : tie.Need-array-read-t21
-array-read-t21 c = search needs
+array-read-t19 : tie.Need-array-read-t19
+array-read-t19 c = search needs
 
-array-read-t24 : tie.Need-array-read-t24
-array-read-t24 c = search needs
+array-read-t22 : tie.Need-array-read-t22
+array-read-t22 c = search needs
 
-array-read-t27 : tie.Need-array-read-t27
-array-read-t27 c = search needs
+array-read-t25 : tie.Need-array-read-t25
+array-read-t25 c = search needs
 
 judge-requires : tie.Need-judge-requires
 judge-requires c κs = search needs
@@ -61,11 +59,11 @@ header-of-spec =
     (tie.spec
     read-rows-requires
     returns
-    array-read-t15
-    array-read-t18
-    array-read-t21
-    array-read-t24
-    array-read-t27
+    array-read-t13
+    array-read-t16
+    array-read-t19
+    array-read-t22
+    array-read-t25
     judge-requires
     said-requires
     returns-2)

@@ -27,13 +27,13 @@ start c = counted c .before .before
 
 -- what the run over the data codewords gives
 run : (c : tie.After-read-data) → let a = start c .args in
-    Run (a .f) (now (a .symbols)) (a .len) (a .repairs) (c .read-data .last .1 .1 .1 .1 .1 .1 .0) (c .read-data .result .end) (c .read-data .result .repairs)
+    Run (a .f) (now (a .symbols)) (a .len) (a .repairs) (c .read-data .last .1 .1 .1 .1 .1 .1 .1 .0) (c .read-data .result .end) (c .read-data .result .repairs)
 unfolding blank
 run c =
     let s = start c in
     record {
-      valid = s .pre .1 .headed .valid;
-      header = s .pre .1 .headed .repaired;
+      valid = s .pre .2 .headed .valid;
+      header = s .pre .2 .headed .repaired;
       walk = rw (data-is (s .args .f) (s .args .len) (counted c .nibbles-of .ensures)) at (c .read-data .ensures .0);
     }
 
@@ -41,7 +41,7 @@ run c =
 few : (c : tie.After-read-data) → c .read-data .result .end ≤ 514
 few c =
     let s = start c in
-    omega (arith, run-le (run c), data-le (s .args .len) (s .args .f .checked) (s .pre .1 .headed .short))
+    omega (arith, run-le (run c), data-le (s .args .len) (s .args .f .checked) (s .pre .2 .headed .short))
 
 -- where it did not end early all codewords were read
 whole : (c : tie.Else1) → let a = start (c .before .before) .args in nibblesOf (a .f) (a .len) ≤ a .f .header + c .before .before .read-data .result .end
@@ -49,7 +49,7 @@ whole c = omega (arith, c .if1 .left, counted (c .before .before) .nibbles-of .e
 
 -- and then the frame's symbols are marked
 marked : (c : tie.Else1) → let r = c .before .before in let a = start r .args in
-    Marked (a .f) (now (a .symbols)) (nibblesOf (a .f) (a .len)) (symbolsOf (a .f) (a .len)) (r .read-data .last .1 .1 .1 .1 .1 .1 .1 .0)
+    Marked (a .f) (now (a .symbols)) (nibblesOf (a .f) (a .len)) (symbolsOf (a .f) (a .len)) (r .read-data .last .1 .1 .1 .1 .1 .1 .1 .1 .0)
 unfolding symbolsOf
 marked c =
     let r = c .before .before in
@@ -69,20 +69,21 @@ unfolding symbolsOf
 read-data-requires c κs =
     let r = c .before .before in
     let s = r .before .before in
-    let v = s .pre .1 .headed .valid in
+    let v = s .pre .2 .headed .valid in
     let e = whole-is (s .args .f) (s .args .len) (r .nibbles-of .ensures) in (
       s .pre .0,
+      s .pre .1,
       v,
-      s .pre .1 .headed .first,
-      s .pre .1 .headed .flipped,
-      rw e (nibbles-le (s .args .f) (s .args .len) v (s .pre .1 .headed .short)),
-      rw e (omega (arith, s .pre .1 .whole, s .pre .1 .there)),
+      s .pre .2 .headed .first,
+      s .pre .2 .headed .flipped,
+      rw e (nibbles-le (s .args .f) (s .args .len) v (s .pre .2 .headed .short)),
+      rw e (omega (arith, s .pre .2 .whole, s .pre .2 .there)),
       refl,
-      s .pre .2,
+      s .pre .3,
     )
 
 add-end : tie.Need-add-end
-add-end c = omega (arith, few (c .before), start (c .before) .pre .1 .headed .valid .header-high)
+add-end c = omega (arith, few (c .before), start (c .before) .pre .2 .headed .valid .header-high)
 
 returns : tie.Need-returns
 returns c =
@@ -95,13 +96,13 @@ returns c =
 payload-of-nibbles-requires : tie.Need-payload-of-nibbles-requires
 payload-of-nibbles-requires c κs =
     let r = c .before .before .before in
-    let h = start r .pre .1 .headed in
+    let h = start r .pre .2 .headed in
     (h .valid .header-high, h .short, run-small (run r))
 
 sum-holds-requires : tie.Need-sum-holds-requires
 sum-holds-requires c κs =
     let r = c .before .before .before .before .before in
-    let h = start r .pre .1 .headed in
+    let h = start r .pre .2 .headed in
     (h .valid, h .short, run-small (run r))
 
 returns-2 : tie.Need-returns-2
@@ -113,22 +114,22 @@ returns-2 c =
       held = search needs;
     }
 
-add-t17 : tie.Need-add-t17
-add-t17 c =
+add-t18 : tie.Need-add-t18
+add-t18 c =
     let p = c .before .before .before .before in
     let r = p .before .before .before .before in
-    omega (arith, run-few (run r), few r, start r .pre .1 .headed .valid .header-high)
+    omega (arith, run-few (run r), few r, start r .pre .2 .headed .valid .header-high)
 
 shared-slice-read-drift-of-number : tie.Need-shared-slice-read-drift-of-number
 shared-slice-read-drift-of-number c =
     let p = c .before .before .before .before .before in
     let s = start (p .before .before .before .before) in
-    omega (arith, s .pre .1 .whole, s .pre .1 .there, symbols-ge (s .args .f) (s .args .len))
+    omega (arith, s .pre .2 .whole, s .pre .2 .there, symbols-ge (s .args .f) (s .args .len))
 
 drift-of-number-requires : tie.Need-drift-of-number-requires
 drift-of-number-requires c κs =
     let p = c .before .before .before .before .before in
-    let h = start (p .before .before .before .before) .pre .1 .headed in
+    let h = start (p .before .before .before .before) .pre .2 .headed in
     (h .valid .sf-low, h .valid .sf-high, h .starts 0 (omega arith))
 
 -- the first symbol's drift, as it stands in the answer
@@ -142,7 +143,7 @@ returns-3 c =
     let e = p .before .before in
     let w = run (e .before .before) in
     record {
-      says = rw (start (e .before .before) .pre .1 .whole) (says-payload w _ (blank 255 0) (first-drift c) (whole e) (p .payload-of-nibbles .ensures) (sym (c .before .before .before .before .sum-holds .ensures) ∙ not-false _ (c .before .before .before .if2 .left)));
+      says = rw (start (e .before .before) .pre .2 .whole) (says-payload w _ (blank 255 0) (first-drift c) (whole e) (p .payload-of-nibbles .ensures) (sym (c .before .before .before .before .sum-holds .ensures) ∙ not-false _ (c .before .before .before .if2 .left)));
       held = (p .payload-of-nibbles .ensures ∙ run-payload w (whole e) (blank 255 0), marked e);
     }
 
@@ -158,7 +159,7 @@ decode-spec =
     payload-of-nibbles-requires
     sum-holds-requires
     returns-2
-    add-t17
+    add-t18
     shared-slice-read-drift-of-number
     drift-of-number-requires
     returns-3)

@@ -23,15 +23,15 @@ start c = c .before .before .before .before .before
 -- the payload is at most 255 bytes long, the frame at most 832 symbols
 short : (c : tie.After-decode) → (start c .args .len ≤ 255) × (start c .args .total ≤ 832)
 short c =
-    let h = start c .pre .1 .headed in
-    (h .short, omega (arith, start c .pre .1 .whole, symbols-le _ _ (h .valid) (h .short)))
+    let h = start c .pre .2 .headed in
+    (h .short, omega (arith, start c .pre .2 .whole, symbols-le _ _ (h .valid) (h .short)))
 
 -- the payload and the marks that they made
 abbrev payload : tie.After-decode → List ℕ
 payload c = c .decode .result .payload
 
 abbrev marks : tie.After-decode → List ℕ
-marks c = c .decode .last .1 .1 .1 .1 .1 .1 .1 .1 .0
+marks c = c .decode .last .1 .1 .1 .1 .1 .1 .1 .1 .1 .0
 
 -- in the arm of a payload they are the frame's
 held : (c : tie.After-answer2) → let d = c .before .before .before in let a = start d .args in
@@ -62,7 +62,7 @@ slice-aggregate-copy : tie.Need-slice-aggregate-copy
 slice-aggregate-copy c = sym (length-take-le _ _ (bytes-there (c .before .before .before .before .before)))
 
 copy-requires : tie.Need-copy-requires
-copy-requires c κs = let d = c .before .before .before .before .before .before in rw (length-take-le _ _ (bytes-there d)) (start d .pre .2)
+copy-requires c κs = let d = c .before .before .before .before .before .before in rw (length-take-le _ _ (bytes-there d)) (start d .pre .3)
 
 array-share-prefix-marks : tie.Need-array-share-prefix-marks
 array-share-prefix-marks c = marks-there (c .before .before .before .before .before .before)
@@ -73,7 +73,7 @@ slice-aggregate-copy-2 c = sym (length-take-le _ _ (marks-there (c .before .befo
 copy-requires-2 : tie.Need-copy-requires-2
 copy-requires-2 c κs =
     let a = c .before .before .before .before .before .before .before .before in
-    rw (length-take-le _ _ (marks-there a)) (start (a .before .before .before) .pre .3)
+    rw (length-take-le _ _ (marks-there a)) (start (a .before .before .before) .pre .4)
 
 returns : tie.Need-returns
 returns c =
@@ -95,7 +95,7 @@ returns-2 c =
     record {
       answer = sym (a .answer2 .given .1) ∙ d .decode .ensures .says;
       cells = o .copy .ensures ∙ copied-payload _ _ _ _ (bytes-there d) (held a .0);
-      marks = m .copy2 .ensures ∙ copied-marks _ _ _ _ (start d .pre .1 .whole) (marks-there a) (held a .1);
+      marks = m .copy2 .ensures ∙ copied-marks _ _ _ _ (start d .pre .2 .whole) (marks-there a) (held a .1);
     }
 
 pub deliver-spec : {M : Type 1} → statement M

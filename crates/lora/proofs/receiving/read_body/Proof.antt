@@ -38,7 +38,8 @@ deliver-requires c κs =
     let total = d .before .symbols-of .ensures in
     let (fits, lists, there, is) = passed t in (
       s .pre .0,
-      record { headed = s .pre .1; whole = total; there = omega (arith, total, there) },
+      s .pre .1,
+      record { headed = s .pre .2; whole = total; there = omega (arith, total, there) },
       fits,
       omega (arith, total, lists),
     )

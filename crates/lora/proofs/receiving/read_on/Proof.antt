@@ -12,7 +12,7 @@ use Rattle.lora.proofs.receiving.read_on.Tie as tie
 
 -- the grid of block 0, and how the function was called, from behind the header
 abbrev gridded : tie.After-header-of → tie.After-first-grid
-gridded c = c .before .before .before .before
+gridded c = c .before .before .before .before .before .before
 
 abbrev start : tie.After-header-of → tie.Start
 start c = gridded c .before .before .before .before
@@ -29,6 +29,9 @@ first-grid-requires c κs = search needs
 readings-requires : tie.Need-readings-requires
 readings-requires c κs = search needs
 
+steps-requires : tie.Need-steps-requires
+steps-requires c κs = search needs
+
 header-of-requires : tie.Need-header-of-requires
 header-of-requires c κs = search needs
 
@@ -44,21 +47,22 @@ frame-of-requires c κs = search needs
 read-body-requires : tie.Need-read-body-requires
 read-body-requires c κs =
     let f = c .before .before .before in
-    let g = f .before .before .before in
-    let h = g .before .before .before in
+    let g = f .before .before .before .before in
+    let h = g .before .before in
     let s = start h in
     let grid = gridded h .first-grid .ensures in
     let says = g .heading2 .given .1 in
     let low = s .pre .0 in
     let opened = h .header-of .ensures in (
-      h .before .before .before .readings .ensures,
+      h .before .before .before .before .before .readings .ensures,
+      h .before .before .before .before .steps .ensures,
       rw (f .frame-of .ensures)
           (headed (s .args .sf) (s .args .low) _ _ (head-sound _ _ _ (sym (head-is h) ∙ says)) grid (opened .repaired _ says ∙ grid-repairs _ _ low grid) (opened .flipped _ says)),
     )
 
 returns : tie.Need-returns
 unfolding readOf
-returns c = record { answer = rw (sym (head-is (c .before .before .before .before)) ∙ c .before .heading .given .1); cells = refl; marks = refl }
+returns c = record { answer = rw (sym (head-is (c .before .before .before)) ∙ c .before .heading .given .1); cells = refl; marks = refl }
 
 same-length : tie.Need-same-length
 same-length c = search needs
@@ -70,8 +74,8 @@ returns-2 : tie.Need-returns-2
 unfolding readOf
 returns-2 c =
     let f = c .before .before .before .before .before .before .before .before in
-    let g = f .before .before .before in
-    let h = g .before .before .before in
+    let g = f .before .before .before .before in
+    let h = g .before .before in
     let b = rw (f .frame-of .ensures) at (c .before .before .before .before .read-body .ensures) in
     record {
       answer = b .answer ∙ rw (sym (head-is h) ∙ g .heading2 .given .1);
@@ -85,6 +89,7 @@ read-on-spec =
     (tie.spec
     first-grid-requires
     readings-requires
+    steps-requires
     header-of-requires
     enum-known-heading
     enum-known-heading-2
