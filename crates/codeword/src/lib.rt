@@ -47,8 +47,8 @@ const READINGS: [u8; WORDS] = *b"\
 // The bits of a reading: 0 to 7, and 8 for none.
 pub const BITS: usize = 9;
 
-// What each adds to a number that counts flips, a byte for each bit of a codeword: one in its byte. A table is quicker here than
-// a shift, and no bit adds nothing.
+// What each adds to a number that counts flips, a byte for each bit of a codeword: one in its byte; none adds nothing. So a row
+// is counted by a load and a sum, whatever it was read as.
 const STEPS: [u64; BITS] = [
     1,
     256,
