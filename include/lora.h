@@ -1,6 +1,7 @@
 /* The digital half of a LoRa transceiver: payload bytes to symbol numbers, symbol numbers to payload, the header alone,
- * the symbol count, the time on air. Explicit header only. And the day's file: what was received in a day, written, checked
- * and walked. Link with liblora_c.a (x86-64 Linux).
+ * the symbol count, the time on air. Frames have an explicit header, which says length, CR and checksum flag; or none, and
+ * sender and receiver have agreed on these: for them are the functions that end in _agreed. And the day's file: what was
+ * received in a day, written, checked and walked. Link with liblora_c.a (x86-64 Linux).
  *
  * Symbol numbers count from 0 at the preamble's chirp; a station that counts from 1 subtracts first. In block 0, and at low
  * rate in every block, only multiples of 4 are sent, the marks. There a symbol that arrives 2 below to 1 above a mark,
@@ -11,13 +12,17 @@
  * off, any other number for on.
  *
  * The functions keep no state and allocate nothing. Any number of threads may call them at once, each with lists of its
- * own that no other thread writes. A call needs 3.5 KiB of stack (measured, not proved: reference/run stack).
+ * own that no other thread writes. A call needs 4.1 KiB of stack (measured, not proved: reference/run stack).
  *
  * What accepted means: read with the sender's own SF and low-rate setting, which the frame does not carry, the symbols are
  * a frame by the rules. It is the frame that was sent if at most one symbol was changed in each block, or two at 4/8, those
  * read as the mark that was sent not counted: that is proved. With more changed, or with another SF or low-rate setting, a
  * wrong payload may be accepted: seldom with the checksum on at 4/5, 4/6 and 4/8, more often at 4/7 or with the checksum
  * off (measured: reference/run misread).
+ * A frame without a header does not carry its length, CR and checksum flag either: all this holds where they are read as the
+ * sender's own. Read with other agreed values, an unharmed frame may be accepted with wrong bytes, and no repair need show it:
+ * with the checksum off often, and always if nothing but the length is wrong and too short; with the checksum on seldom
+ * (measured by the same command).
  *
  * Ranges: SF 7 to 12, CR 1 to 4 (4/5 to 4/8), length 0 to 255, bandwidth 125, 250 or 500 kHz, preamble any 16-bit number.
  * The largest frame has 832 symbols, the longest payload 255 bytes, the longest file of a day 67,603 bytes.
@@ -30,8 +35,9 @@
  *
  *   No.                        Given when                                               Place
  *   LORA_BAD_SF            1   SF not 7 to 12                                           0
- *   LORA_BAD_CR            2   CR not 1 to 4 (code, count, airtime)                     0
- *   LORA_TOO_LONG          3   length above 255 (code, count, airtime)                  0
+ *   LORA_BAD_CR            2   CR not 1 to 4 (code, count, airtime, read_agreed)        0
+ *   LORA_TOO_LONG          3   length above 255 (code, count, airtime, read_agreed)     0
+ *                              not the agreed length (code, count, airtime _agreed)     0
  *   LORA_OUT_SHORT         4   lent output too short                                    cells needed
  *   LORA_FEW_SYMBOLS       5   fewer symbols than needed                                symbols needed
  *   LORA_SYMBOL_OVER       6   a symbol is 2^SF or more                                 its index
@@ -63,9 +69,9 @@
 #include <stdint.h>
 
 #define LORA_VERSION_MAJOR 4
-#define LORA_VERSION_MINOR 0
+#define LORA_VERSION_MINOR 1
 #define LORA_VERSION_PATCH 0
-#define LORA_VERSION "4.0.0"
+#define LORA_VERSION "4.1.0"
 
 #ifdef __cplusplus
 extern "C" {
@@ -97,7 +103,7 @@ static inline const char *lora_meaning(uint8_t number)
     case LORA_OK: return "accepted";
     case LORA_BAD_SF: return "SF not 7 to 12";
     case LORA_BAD_CR: return "CR not 1 to 4";
-    case LORA_TOO_LONG: return "length above 255";
+    case LORA_TOO_LONG: return "length above 255, or not the agreed one";
     case LORA_OUT_SHORT: return "lent output too short";
     case LORA_FEW_SYMBOLS: return "fewer symbols than needed";
     case LORA_SYMBOL_OVER: return "a symbol is 2^SF or more";
@@ -114,7 +120,7 @@ static inline const char *lora_meaning(uint8_t number)
     }
 }
 
-/* The sizes that are always enough, and the cells of `answer` that each function needs. */
+/* The sizes that are always enough, and the cells of `answer` that each function needs, with _agreed as without. */
 enum {
     LORA_MAX_SYMBOLS = 832,
     LORA_MAX_PAYLOAD = 255,
@@ -173,6 +179,29 @@ uint8_t lora_head(uint8_t sf, const uint16_t *symbols, size_t symbols_len, uint6
  * [5] drift. A cell has no sign, so -1 and -2 come back as 2^64 - 1 and 2^64 - 2: (int64_t)answer[5] is the drift. */
 uint8_t lora_read(uint8_t sf, uint8_t low, const uint16_t *symbols, size_t symbols_len, uint8_t *out, size_t out_len,
                   uint8_t *hurts, size_t hurts_len, uint64_t *answer, size_t answer_len);
+
+/* Frames without a header, as small sensors send them. Length, CR and checksum flag are not in the frame: sender and
+ * receiver have agreed on them, and `agreed` is the agreed length. All codewords of block 0 are for data, so the frames are
+ * shorter: the largest has 824 symbols. What is not told here is as with the function of the same name without _agreed.
+ *
+ * count_agreed, airtime_agreed and code_agreed give 3 also for a length, or a payload, that is not the agreed one. */
+uint8_t lora_count_agreed(uint8_t sf, uint8_t low, size_t agreed, uint8_t cr, uint8_t checksum, size_t length,
+                          uint64_t *answer, size_t answer_len);
+
+uint8_t lora_airtime_agreed(uint8_t sf, uint8_t low, size_t agreed, uint8_t cr, uint8_t checksum, size_t length,
+                            uint16_t khz, uint16_t preamble, uint64_t *answer, size_t answer_len);
+
+uint8_t lora_code_agreed(uint8_t sf, uint8_t low, size_t agreed, uint8_t cr, uint8_t checksum, const uint8_t *payload,
+                         size_t payload_len, uint16_t *out, size_t out_len, uint64_t *answer, size_t answer_len);
+
+/* read_agreed: reads with these agreed values, which have to be the sender's, and answers them as length, CR and checksum
+ * flag (0 or 1).
+ * Checks 1; 2; 3 for an agreed length above 255; 4 for the payload; 4 for `hurts`, the cells needed being the frame's
+ * symbols; 5 for the whole frame; 6 among its symbols, lowest index first; 7 over data codewords in frame order; 12.
+ * With the length 0 and the checksum off there are no data: any eight symbols below 2^SF are accepted, with no repairs. */
+uint8_t lora_read_agreed(uint8_t sf, uint8_t low, size_t agreed, uint8_t cr, uint8_t checksum, const uint16_t *symbols,
+                         size_t symbols_len, uint8_t *out, size_t out_len, uint8_t *hurts, size_t hurts_len,
+                         uint64_t *answer, size_t answer_len);
 
 /* day_write: a day's entries as rows of numbers; fills the lent byte buffer `out` from out[0] on with the day's file;
  * answers its length. Rows stand one behind the other, payloads too, in the order of the frames:

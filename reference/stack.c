@@ -1,8 +1,8 @@
 /* How deep each function of the library reaches into the stack. A thread calls it on a stack that was painted before, and
- * looks up the deepest byte that is not paint any more. Every setting is tried, with short and long frames, clean and
- * spoiled; and days without entries and with many, their files good and spoiled. The small frame of the calling function
- * and the arguments that it pushes are counted in; what the dynamic loader needs to bind memcpy and memset at their first
- * call is not. */
+ * looks up the deepest byte that is not paint any more. Every setting is tried, with short and long frames, with a header
+ * and without, clean and spoiled; and days without entries and with many, their files good and spoiled. The small frame of
+ * the calling function and the arguments that it pushes are counted in; what the dynamic loader needs to bind memcpy and
+ * memset at their first call is not. */
 #define _POSIX_C_SOURCE 200809L
 #include <pthread.h>
 #include <stdio.h>
@@ -53,6 +53,27 @@ static void call_airtime(void)
     lora_airtime(sf, low, cr, checksum, length, 125, 8, answer, LORA_AIRTIME_CELLS);
 }
 
+static void call_code_agreed(void)
+{
+    lora_code_agreed(sf, low, length, cr, checksum, payload, length, symbols, LORA_MAX_SYMBOLS, answer, LORA_CODE_CELLS);
+}
+
+static void call_read_agreed(void)
+{
+    lora_read_agreed(sf, low, length, cr, checksum, symbols, count, out, sizeof out, hurts, sizeof hurts, answer,
+                     LORA_READ_CELLS);
+}
+
+static void call_count_agreed(void)
+{
+    lora_count_agreed(sf, low, length, cr, checksum, length, answer, LORA_COUNT_CELLS);
+}
+
+static void call_airtime_agreed(void)
+{
+    lora_airtime_agreed(sf, low, length, cr, checksum, length, 125, 8, answer, LORA_AIRTIME_CELLS);
+}
+
 static void call_day_write(void)
 {
     lora_day_write(settings, settings_len, frames, frames_len, payloads, payloads_len, refused, refused_len, file,
@@ -69,18 +90,29 @@ static void call_day_step(void)
     lora_day_step(file, file_len, at, section, left, named, answer, LORA_DAY_STEP_CELLS);
 }
 
-static struct function {
+struct function {
     const char *name;
     void (*call)(void);
     size_t deepest;
-} functions[] = {
+};
+/* The first of each kind of frame makes the symbols that the others take. */
+static struct function functions[] = {
     {"lora_code", call_code, 0},   {"lora_read", call_read, 0},       {"lora_head", call_head, 0},
     {"lora_count", call_count, 0}, {"lora_airtime", call_airtime, 0},
+};
+static struct function agreed_functions[] = {
+    {"lora_code_agreed", call_code_agreed, 0},
+    {"lora_read_agreed", call_read_agreed, 0},
+    {"lora_count_agreed", call_count_agreed, 0},
+    {"lora_airtime_agreed", call_airtime_agreed, 0},
 };
 static struct function day_functions[] = {
     {"lora_day_write", call_day_write, 0}, {"lora_day_check", call_day_check, 0}, {"lora_day_step", call_day_step, 0},
 };
-enum { FUNCTIONS = sizeof functions / sizeof functions[0] };
+enum {
+    FUNCTIONS = sizeof functions / sizeof functions[0],
+    AGREED_FUNCTIONS = sizeof agreed_functions / sizeof agreed_functions[0]
+};
 enum { WRITE, CHECK, STEP, DAY_FUNCTIONS };
 
 /* Makes the call and looks for its traces at once: the end of a thread leaves others. */
@@ -114,18 +146,18 @@ static void measure(struct function *function)
         function->deepest = depth;
 }
 
-/* Codes the payload, changes so many symbols and calls each function. */
-static void measure_frame(size_t changed)
+/* Codes the payload, changes so many symbols and calls each function of a kind. */
+static void measure_frame(struct function *some, size_t number, size_t changed)
 {
     size_t i;
 
-    call_code();
+    some[0].call();
     count = (size_t)answer[0];
     for (i = 0; i < changed; i++)
         symbols[(size_t)rand() % count] = (uint16_t)(rand() % (1 << sf));
-    /* lora_code writes the symbols anew, so it comes last. */
-    for (i = FUNCTIONS; i > 0; i--)
-        measure(&functions[i - 1]);
+    /* Coding writes the symbols anew, so it comes last. */
+    for (i = number; i > 0; i--)
+        measure(&some[i - 1]);
 }
 
 static void measure_setting(void)
@@ -135,8 +167,10 @@ static void measure_setting(void)
 
     for (i = 0; i < sizeof lengths / sizeof lengths[0]; i++) {
         length = lengths[i];
-        for (changed = 0; changed <= 4; changed += 2)
-            measure_frame(changed);
+        for (changed = 0; changed <= 4; changed += 2) {
+            measure_frame(functions, FUNCTIONS, changed);
+            measure_frame(agreed_functions, AGREED_FUNCTIONS, changed);
+        }
     }
 }
 
@@ -236,6 +270,7 @@ int main(void)
     measure_day(3, 20);
     measure_day(255, 254);
     deepest = printed(functions, FUNCTIONS, deepest);
+    deepest = printed(agreed_functions, AGREED_FUNCTIONS, deepest);
     deepest = printed(day_functions, DAY_FUNCTIONS, deepest);
     printf("deepest: %zu bytes of stack\n", deepest);
     return 0;

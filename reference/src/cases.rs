@@ -5,10 +5,10 @@ pub mod hurts;
 
 use crate::plain::{self, header};
 use crate::random::Random;
-use crate::types::{Header, Settings};
+use crate::types::{Expected, Kind, Settings};
 use crate::{MOST_BYTES, MOST_SYMBOLS};
 
-/// All 96 settings that are in range.
+/// All 96 settings of frames with a header that are in range.
 pub const SETTINGS: usize = 6 * 2 * 4 * 2;
 
 /// The settings with this number below `SETTINGS`.
@@ -16,8 +16,10 @@ pub fn settings(number: usize) -> Settings {
     Settings {
         sf: 7 + (number % 6) as u8,
         low: number / 6 % 2 == 1,
-        cr: 1 + (number / 12 % 4) as u8,
-        checksum: number / 48 == 1,
+        kind: Kind::Explicit {
+            cr: 1 + (number / 12 % 4) as u8,
+            checksum: number / 48 == 1,
+        },
     }
 }
 
@@ -35,9 +37,9 @@ pub fn payload(random: &mut Random) -> Vec<u8> {
 /// The steps from a symbol at the four-wide spacing that leave its value.
 const WITHIN: [i8; 4] = [-2, -1, 0, 1];
 
-/// What is done to a frame.
+/// What becomes of a frame.
 #[derive(Clone, Copy, Debug)]
-pub enum Kind {
+pub enum Fate {
     Clean,
     Drifted,
     ChangedSymbols,
@@ -49,26 +51,48 @@ pub enum Kind {
     ForeignFillers,
     Misread,
     Noise,
+    /// Read with other agreed values than the sender's.
+    Disagreed,
 }
 
-/// The kinds, those with more to find more often.
-pub const KINDS: [Kind; 16] = [
-    Kind::Clean,
-    Kind::Drifted,
-    Kind::Drifted,
-    Kind::ChangedSymbols,
-    Kind::ChangedSymbols,
-    Kind::ChangedSymbols,
-    Kind::ChangedSymbols,
-    Kind::ChangedHeader,
-    Kind::ChangedHeader,
-    Kind::ChangedData,
-    Kind::Cut,
-    Kind::OutOfRange,
-    Kind::Followed,
-    Kind::ForeignFillers,
-    Kind::Misread,
-    Kind::Noise,
+/// The fates of frames with a header, those with more to find more often.
+pub const FATES: [Fate; 16] = [
+    Fate::Clean,
+    Fate::Drifted,
+    Fate::Drifted,
+    Fate::ChangedSymbols,
+    Fate::ChangedSymbols,
+    Fate::ChangedSymbols,
+    Fate::ChangedSymbols,
+    Fate::ChangedHeader,
+    Fate::ChangedHeader,
+    Fate::ChangedData,
+    Fate::Cut,
+    Fate::OutOfRange,
+    Fate::Followed,
+    Fate::ForeignFillers,
+    Fate::Misread,
+    Fate::Noise,
+];
+
+/// The fates of frames without one.
+pub const AGREED_FATES: [Fate; 16] = [
+    Fate::Clean,
+    Fate::Drifted,
+    Fate::Drifted,
+    Fate::ChangedSymbols,
+    Fate::ChangedSymbols,
+    Fate::ChangedSymbols,
+    Fate::ChangedSymbols,
+    Fate::ChangedData,
+    Fate::Cut,
+    Fate::OutOfRange,
+    Fate::Followed,
+    Fate::ForeignFillers,
+    Fate::Misread,
+    Fate::Noise,
+    Fate::Disagreed,
+    Fate::Disagreed,
 ];
 
 /// A frame as it comes to the reader.
@@ -76,58 +100,67 @@ pub const KINDS: [Kind; 16] = [
 pub struct Frame {
     pub sf: u8,
     pub low: bool,
+    pub expected: Expected,
     pub symbols: Vec<u16>,
-    /// The payload's length, as sent.
-    pub length: usize,
 }
 
-/// A frame of this kind, sent with these settings.
-pub fn frame(kind: Kind, settings: &Settings, random: &mut Random) -> Frame {
-    let payload = payload(random);
+/// A frame that has any of the fates that there are for its kind.
+pub fn any_frame(settings: &Settings, payload: &[u8], random: &mut Random) -> Frame {
+    let fates = match settings.kind {
+        Kind::Explicit { .. } => FATES,
+        Kind::Agreed { .. } => AGREED_FATES,
+    };
+    frame(random.pick(&fates), settings, payload, random)
+}
+
+/// A frame with this fate, sent with these settings.
+pub fn frame(fate: Fate, settings: &Settings, payload: &[u8], random: &mut Random) -> Frame {
     let Settings {
         mut sf,
         mut low,
-        cr,
-        checksum,
+        kind,
     } = *settings;
-    let length = payload.len();
-    let mut head = header::nibbles(&Header {
-        length,
-        cr,
-        checksum,
-    });
-    let mut data = plain::data_nibbles(checksum, &payload);
-    match kind {
-        Kind::ChangedHeader => head = change_header(head, random),
-        Kind::ChangedData => change_one(&mut data, random),
+    let mut expected = kind.expected();
+    let mut head = plain::head_nibbles(kind, payload.len());
+    let mut data = plain::data_nibbles(kind.checksum(), payload);
+    match fate {
+        Fate::ChangedHeader => change_header(&mut head, random),
+        Fate::ChangedData => change_one(&mut data, random),
         _ => {}
     }
-    let foreign = matches!(kind, Kind::ForeignFillers);
+    let foreign = matches!(fate, Fate::ForeignFillers);
     let mut filler = || if foreign { random.byte() } else { 0 };
-    let mut symbols = plain::frame(settings, head, &data, &mut filler);
-    match kind {
-        Kind::Drifted => drift(&mut symbols, settings, random),
-        Kind::ChangedSymbols => change_symbols(&mut symbols, settings, random),
-        Kind::Cut => symbols.truncate(random.below(symbols.len())),
-        Kind::OutOfRange => put_out_of_range(&mut symbols, sf, random),
-        Kind::Followed => follow(&mut symbols, random),
-        Kind::Misread => {
+    let mut symbols = plain::frame(settings, &head, &data, &mut filler);
+    match fate {
+        Fate::Drifted => drift(&mut symbols, settings, random),
+        Fate::ChangedSymbols => change_symbols(&mut symbols, settings, random),
+        Fate::Cut => symbols.truncate(random.below(symbols.len())),
+        Fate::OutOfRange => put_out_of_range(&mut symbols, sf, random),
+        Fate::Followed => follow(&mut symbols, random),
+        Fate::Misread => {
             if random.flag() {
                 low = !low;
             } else {
                 sf = 7 + random.below(6) as u8;
             }
         }
-        Kind::Noise => symbols
+        Fate::Noise => symbols
             .iter_mut()
             .for_each(|symbol| *symbol = any_symbol(sf, random)),
+        Fate::Disagreed => {
+            expected = disagreed(expected, random);
+            // A frame that is taken for a longer one needs others behind it.
+            if random.flag() {
+                follow(&mut symbols, random);
+            }
+        }
         _ => {}
     }
     Frame {
         sf,
         low,
+        expected,
         symbols,
-        length,
     }
 }
 
@@ -141,22 +174,52 @@ pub fn any_symbol(sf: u8, random: &mut Random) -> u16 {
     random.below(1 << sf) as u16
 }
 
-/// A header of good codewords that says something wrong.
-fn change_header(right: [u8; 5], random: &mut Random) -> [u8; 5] {
-    let [a, b, e, ..] = right;
-    let mut nibbles = right;
+/// One of the agreed values changed to another that is in range.
+fn disagreed(expected: Expected, random: &mut Random) -> Expected {
+    let Expected::Agreed {
+        mut length,
+        mut cr,
+        mut checksum,
+    } = expected
+    else {
+        return expected;
+    };
+    match random.below(4) {
+        0 => length = random.below(MOST_BYTES + 1),
+        // Near enough for the frame's own symbols, mostly.
+        1 => length = (length + random.pick(&[1, 2, 253, 254, 255])) % (MOST_BYTES + 1),
+        2 => cr = 1 + (cr + random.below(3) as u8) % 4,
+        _ => checksum = !checksum,
+    }
+    Expected::Agreed {
+        length,
+        cr,
+        checksum,
+    }
+}
+
+/// Makes a header of good codewords say something wrong, if there is one.
+fn change_header(nibbles: &mut [u8], random: &mut Random) {
+    let &mut [a, b, e, ..] = nibbles else {
+        return;
+    };
     match random.below(6) {
         0 => nibbles[random.below(5)] ^= 1 << random.below(4),
         1 => nibbles[3] |= 2 + 2 * random.below(7) as u8,
-        2 | 3 => nibbles = header::with_check_bits(a, b, random.pick(&[0, 10, 12, 14]) | e & 1),
-        4 => nibbles = header::with_check_bits(a ^ random.byte() & 15, b, e),
+        2 | 3 => {
+            let e = random.pick(&[0, 10, 12, 14]) | e & 1;
+            nibbles.copy_from_slice(&header::with_check_bits(a, b, e));
+        }
+        4 => {
+            let a = a ^ random.byte() & 15;
+            nibbles.copy_from_slice(&header::with_check_bits(a, b, e));
+        }
         _ => {
-            for nibble in &mut nibbles {
+            for nibble in nibbles {
                 *nibble = random.byte() & 15;
             }
         }
     }
-    nibbles
 }
 
 fn change_one(nibbles: &mut [u8], random: &mut Random) {
@@ -184,8 +247,9 @@ fn drift(symbols: &mut [u16], settings: &Settings, random: &mut Random) {
 /// Changes at most 0 to 3 symbols in each block.
 fn change_symbols(symbols: &mut [u16], settings: &Settings, random: &mut Random) {
     let most = random.pick(&[0, 1, 1, 1, 2, 3]);
-    let width = usize::from(settings.cr) + 4;
-    for block in blocks(symbols, settings.cr) {
+    let cr = settings.kind.cr();
+    let width = usize::from(cr) + 4;
+    for block in blocks(symbols, cr) {
         for _ in 0..random.below(most + 1) {
             let symbol = &mut block[random.below(width)];
             *symbol = changed(*symbol, settings.sf, random);

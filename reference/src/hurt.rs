@@ -1,13 +1,13 @@
-//! The program that tells which symbols were hurt (document 02, Ask 3): the text of
-//! the reading program in, one line out. It is `ok` and, for each symbol with
-//! repaired bits, ` INDEX:COUNT`; or the reading program's line of a refusal.
+//! The program that tells which symbols were hurt (document 02, Ask 3): a capture
+//! in, one line out. It is `ok` and, for each symbol with repaired bits,
+//! ` INDEX:COUNT`; or the reading program's line of a refusal.
 
 use crate::text;
 use crate::words::refusal_line;
 
-/// The line that the program prints for this text.
-pub fn answer_line(text: &[u8]) -> Vec<u8> {
-    let line = match text::frame(text) {
+/// The line that the program prints for this capture.
+pub fn answer_line(capture: &[u8]) -> Vec<u8> {
+    let line = match text::frame(capture) {
         Ok(frame) => {
             let hurt = frame
                 .hurts

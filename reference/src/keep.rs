@@ -6,13 +6,13 @@ use crate::text::{self, Capture};
 use crate::types::Refusal;
 use crate::words::refusal_line;
 
-/// The file of these captures, a text a line, and the lines on standard error.
+/// The file of these captures, one a line, and the lines on standard error.
 pub fn keep(input: &[u8]) -> (Result<Vec<u8>, Refusal>, String) {
     let mut day = Day::default();
     let mut errors = String::new();
     let mut told = 0;
-    for (i, text) in texts(input).into_iter().enumerate() {
-        if let Err(refusal) = enter(text, &mut day) {
+    for (i, line) in lines(input).into_iter().enumerate() {
+        if let Err(refusal) = enter(line, &mut day) {
             errors += &format!("line {}: {}", i + 1, refusal_line(refusal));
             told += 1;
         }
@@ -29,8 +29,8 @@ pub fn keep(input: &[u8]) -> (Result<Vec<u8>, Refusal>, String) {
     (file, errors)
 }
 
-/// The input cut at byte 10; an empty piece at the end is no text.
-fn texts(input: &[u8]) -> Vec<&[u8]> {
+/// The input cut at byte 10; an empty piece at the end is no line.
+fn lines(input: &[u8]) -> Vec<&[u8]> {
     let mut pieces: Vec<&[u8]> = input.split(|byte| *byte == b'\n').collect();
     if pieces.last().is_some_and(|last| last.is_empty()) {
         pieces.pop();
@@ -38,9 +38,10 @@ fn texts(input: &[u8]) -> Vec<&[u8]> {
     pieces
 }
 
-/// Reads a text and enters what came out, unless the file can't hold it.
-fn enter(text: &[u8], day: &mut Day) -> Result<(), Refusal> {
-    let capture = text::capture(text)?;
+/// Reads a capture and enters what came out, unless the file can't hold it. Both
+/// kinds of frames are entered alike.
+fn enter(line: &[u8], day: &mut Day) -> Result<(), Refusal> {
+    let capture = text::capture(line)?;
     match capture.read() {
         Ok(text::Frame {
             received, payload, ..

@@ -2,7 +2,7 @@
 //! The wrapper has types of its own, so that nothing here is shared with it.
 
 use crate::plain::day::{Counts, Entry, Frame, Place, RefusedFrame, Section, Setting};
-use crate::types::{Header, Received, Refusal, Settings};
+use crate::types::{Expected, Header, Kind, Received, Refusal, Settings};
 use chyvandra::{DayEntry, DayFrame, DayPlace, DayRefused, DaySection, DaySetting};
 
 pub fn code(settings: &Settings, payload: &[u8], out: &mut [u16]) -> Result<usize, Refusal> {
@@ -12,11 +12,24 @@ pub fn code(settings: &Settings, payload: &[u8], out: &mut [u16]) -> Result<usiz
 pub fn read(
     sf: u8,
     low: bool,
+    expected: Expected,
     symbols: &[u16],
     out: &mut [u8],
     hurts: &mut [u8],
 ) -> Result<Received, Refusal> {
-    let received = chyvandra::read(sf, low, symbols, out, hurts).map_err(refusal)?;
+    let expected = match expected {
+        Expected::Explicit => chyvandra::Expected::Explicit,
+        Expected::Agreed {
+            length,
+            cr,
+            checksum,
+        } => chyvandra::Expected::Agreed {
+            length,
+            cr,
+            checksum,
+        },
+    };
+    let received = chyvandra::read(sf, low, expected, symbols, out, hurts).map_err(refusal)?;
     Ok(Received {
         header: header(received.header),
         symbols: received.symbols,
@@ -162,12 +175,20 @@ fn entry_of(file: &[u8], entry: DayEntry) -> Entry {
 }
 
 fn given(settings: &Settings) -> chyvandra::Settings {
-    chyvandra::Settings {
-        sf: settings.sf,
-        low: settings.low,
-        cr: settings.cr,
-        checksum: settings.checksum,
-    }
+    let Settings { sf, low, kind } = *settings;
+    let kind = match kind {
+        Kind::Explicit { cr, checksum } => chyvandra::Kind::Explicit { cr, checksum },
+        Kind::Agreed {
+            length,
+            cr,
+            checksum,
+        } => chyvandra::Kind::Agreed {
+            length,
+            cr,
+            checksum,
+        },
+    };
+    chyvandra::Settings { sf, low, kind }
 }
 
 fn header(header: chyvandra::Header) -> Header {

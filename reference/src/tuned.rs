@@ -9,7 +9,7 @@
 pub mod day;
 mod tables;
 
-use crate::types::{refuse, Header, Received, Refusal, Settings};
+use crate::types::{refuse, Expected, Header, Kind, Received, Refusal, Settings};
 use crate::{MOST_BYTES, MOST_SYMBOLS};
 use tables::{CHECKS, HURTS, READING, REMAINDERS, SPREAD, UNREADABLE, WHITENING};
 
@@ -18,45 +18,38 @@ const MOST_NIBBLES: usize = 2 * MOST_BYTES + 4;
 
 /// `plain::code`.
 pub fn code(settings: &Settings, payload: &[u8], out: &mut [u16]) -> Result<usize, Refusal> {
-    let Settings {
-        sf,
-        low,
-        cr,
-        checksum,
-    } = *settings;
-    if !(7..=12).contains(&sf) {
-        return refuse(1, 0);
-    }
-    if !(1..=4).contains(&cr) {
-        return refuse(2, 0);
-    }
-    if payload.len() > MOST_BYTES {
-        return refuse(3, 0);
-    }
-    let shape = Shape::new(settings, payload.len());
+    let Settings { sf, low, kind } = *settings;
+    let header = Header {
+        length: payload.len(),
+        cr: kind.cr(),
+        checksum: kind.checksum(),
+    };
+    check_settings(sf, header.cr, header.length)?;
+    let head = match kind {
+        Kind::Explicit { .. } => 5,
+        Kind::Agreed { length, .. } if length != payload.len() => return refuse(3, 0),
+        Kind::Agreed { .. } => 0,
+    };
+    let shape = Shape::new(sf, low, head, &header);
     if out.len() < shape.symbols {
         return refuse(4, shape.symbols);
     }
 
     let mut nibbles = [0; 5 + MOST_NIBBLES];
-    let header = payload.len() << 4 | usize::from(cr) << 1 | usize::from(checksum);
-    let checks = CHECKS[header];
-    nibbles[0] = (header >> 8) as u8;
-    nibbles[1] = (header >> 4) as u8 & 15;
-    nibbles[2] = header as u8 & 15;
-    nibbles[3] = checks >> 4;
-    nibbles[4] = checks & 15;
-    let (places, _) = nibbles[5..].as_chunks_mut::<2>();
+    if head > 0 {
+        nibbles[..5].copy_from_slice(&header_nibbles(&header));
+    }
+    let (places, _) = nibbles[head..].as_chunks_mut::<2>();
     for ((place, byte), white) in places.iter_mut().zip(payload).zip(&WHITENING) {
         *place = halves(byte ^ white);
     }
-    if checksum {
+    if header.checksum {
         let [low_byte, high_byte] = remainder(payload).to_le_bytes();
         places[payload.len()] = halves(low_byte);
         places[payload.len() + 1] = halves(high_byte);
     }
 
-    let nibbles = &nibbles[..5 + shape.nibbles];
+    let nibbles = &nibbles[..head + shape.nibbles];
     let first = usize::from(sf) - 2;
     let (in_first, in_later) = nibbles.split_at(first.min(nibbles.len()));
     let (first_out, later_out) = out[..shape.symbols].split_at_mut(8);
@@ -67,7 +60,7 @@ pub fn code(settings: &Settings, payload: &[u8], out: &mut [u16]) -> Result<usiz
         code_block::<6>,
         code_block::<7>,
         code_block::<8>,
-    ][usize::from(cr) - 1];
+    ][shape.width - 5];
     let blocks = in_later
         .chunks(shape.rows)
         .zip(later_out.chunks_exact_mut(shape.width));
@@ -81,22 +74,36 @@ pub fn code(settings: &Settings, payload: &[u8], out: &mut [u16]) -> Result<usiz
 pub fn read(
     sf: u8,
     low: bool,
+    expected: Expected,
     symbols: &[u16],
     out: &mut [u8],
     hurts: &mut [u8],
 ) -> Result<Received, Refusal> {
-    if !(7..=12).contains(&sf) {
-        return refuse(1, 0);
-    }
-    if symbols.len() < 8 {
-        return refuse(5, 8);
-    }
-    check_range(sf, symbols, 0, 8)?;
-    let first = usize::from(sf) - 2;
-    let lanes = lanes_of::<8>(symbols, first, 2);
-    let mut head = [0; 5];
-    let mut counts = read_words(lanes, 4, 0, &mut head).or_else(|i| refuse(7, i))?;
-    let header = header(head)?;
+    let Opened {
+        header,
+        head,
+        mut counts,
+        lanes,
+    } = match expected {
+        Expected::Explicit => header_read(sf, symbols)?,
+        Expected::Agreed {
+            length,
+            cr,
+            checksum,
+        } => {
+            check_settings(sf, cr, length)?;
+            Opened {
+                header: Header {
+                    length,
+                    cr,
+                    checksum,
+                },
+                head: 0,
+                counts: 0,
+                lanes: None,
+            }
+        }
+    };
     let Header {
         length,
         cr,
@@ -105,27 +112,21 @@ pub fn read(
     if out.len() < length {
         return refuse(4, length);
     }
-    let shape = Shape::new(
-        &Settings {
-            sf,
-            low,
-            cr,
-            checksum,
-        },
-        length,
-    );
+    let shape = Shape::new(sf, low, head, &header);
     if hurts.len() < shape.symbols {
         return refuse(4, shape.symbols);
     }
     if symbols.len() < shape.symbols {
         return refuse(5, shape.symbols);
     }
-    check_range(sf, symbols, 8, shape.symbols)?;
+    check_range(sf, &symbols[..shape.symbols])?;
 
     let mut nibbles = [0; MOST_NIBBLES];
     let data = &mut nibbles[..shape.nibbles];
-    let (in_first, in_later) = data.split_at_mut((first - 5).min(shape.nibbles));
-    counts += read_words(lanes, 4, 5, in_first).or_else(|i| refuse(7, 5 + i))?;
+    let first = usize::from(sf) - 2;
+    let (in_first, in_later) = data.split_at_mut((first - head).min(shape.nibbles));
+    let lanes = lanes.unwrap_or_else(|| lanes_of::<8>(symbols, first, 2));
+    counts += read_words(lanes, 4, head, in_first).or_else(|i| refuse(7, head + i))?;
     let mut repairs = sum(counts);
     // Kept apart until nothing can be refused any more. Each block writes eight
     // cells; those beyond its own are the next one's, and the last has room.
@@ -166,6 +167,52 @@ pub fn read(
     })
 }
 
+/// What is known of a frame before its data are read.
+struct Opened {
+    header: Header,
+    /// Codewords before the data.
+    head: usize,
+    /// The repairs in them, by columns.
+    counts: u64,
+    /// The columns of block 0, where they had to be put together already.
+    lanes: Option<u128>,
+}
+
+fn header_read(sf: u8, symbols: &[u16]) -> Result<Opened, Refusal> {
+    check_sf(sf)?;
+    if symbols.len() < 8 {
+        return refuse(5, 8);
+    }
+    check_range(sf, &symbols[..8])?;
+    let lanes = lanes_of::<8>(symbols, usize::from(sf) - 2, 2);
+    let mut nibbles = [0; 5];
+    let counts = read_words(lanes, 4, 0, &mut nibbles).or_else(|i| refuse(7, i))?;
+    Ok(Opened {
+        header: header(nibbles)?,
+        head: 5,
+        counts,
+        lanes: Some(lanes),
+    })
+}
+
+fn check_sf(sf: u8) -> Result<(), Refusal> {
+    if !(7..=12).contains(&sf) {
+        return refuse(1, 0);
+    }
+    Ok(())
+}
+
+fn check_settings(sf: u8, cr: u8, length: usize) -> Result<(), Refusal> {
+    check_sf(sf)?;
+    if !(1..=4).contains(&cr) {
+        return refuse(2, 0);
+    }
+    if length > MOST_BYTES {
+        return refuse(3, 0);
+    }
+    Ok(())
+}
+
 /// What settings and length say about a frame.
 struct Shape {
     nibbles: usize,
@@ -177,12 +224,13 @@ struct Shape {
 }
 
 impl Shape {
-    fn new(settings: &Settings, length: usize) -> Shape {
-        let sf = usize::from(settings.sf);
-        let nibbles = 2 * length + 4 * usize::from(settings.checksum);
-        let rows = sf - 2 * usize::from(settings.low);
-        let width = usize::from(settings.cr) + 4;
-        let symbols = 8 + width * nibbles.saturating_sub(sf - 7).div_ceil(rows);
+    /// With so many codewords before the data.
+    fn new(sf: u8, low: bool, head: usize, header: &Header) -> Shape {
+        let sf = usize::from(sf);
+        let nibbles = 2 * header.length + 4 * usize::from(header.checksum);
+        let rows = sf - 2 * usize::from(low);
+        let width = usize::from(header.cr) + 4;
+        let symbols = 8 + width * nibbles.saturating_sub(sf - 2 - head).div_ceil(rows);
         Shape {
             nibbles,
             rows,
@@ -278,6 +326,18 @@ fn gathered(lanes: u64) -> usize {
     (bottom.wrapping_mul(1 << 48 | 1 << 33 | 1 << 18 | 1 << 3) >> 48 & 15) as usize
 }
 
+fn header_nibbles(header: &Header) -> [u8; 5] {
+    let bits = header.length << 4 | usize::from(header.cr) << 1 | usize::from(header.checksum);
+    let checks = CHECKS[bits];
+    [
+        (bits >> 8) as u8,
+        (bits >> 4) as u8 & 15,
+        bits as u8 & 15,
+        checks >> 4,
+        checks & 15,
+    ]
+}
+
 fn header(nibbles: [u8; 5]) -> Result<Header, Refusal> {
     let [a, b, e, fourth, fifth] = nibbles;
     let length = usize::from(a) << 4 | usize::from(b);
@@ -298,14 +358,13 @@ fn header(nibbles: [u8; 5]) -> Result<Header, Refusal> {
     })
 }
 
-fn check_range(sf: u8, symbols: &[u16], from: usize, to: usize) -> Result<(), Refusal> {
-    let symbols = &symbols[from..to];
+fn check_range(sf: u8, symbols: &[u16]) -> Result<(), Refusal> {
     if symbols.iter().fold(0, |all, symbol| all | symbol) >> sf == 0 {
         return Ok(());
     }
     refuse(
         6,
-        from + symbols
+        symbols
             .iter()
             .take_while(|symbol| **symbol >> sf == 0)
             .count(),
@@ -325,16 +384,28 @@ mod tests {
     use crate::plain;
     use crate::random::Random;
 
+    /// Settings of either kind, for payloads of so many bytes.
+    fn settings(number: usize, length: usize, random: &mut Random) -> Settings {
+        let settings = cases::settings(number % cases::SETTINGS);
+        if random.flag() {
+            settings.without_header(length)
+        } else {
+            settings
+        }
+    }
+
     #[test]
     fn codes_as_plain_does() {
         let mut random = Random::new(1);
         for number in 0..40_000 {
-            let mut settings = cases::settings(number % cases::SETTINGS);
+            let mut payload = cases::payload(&mut random);
+            let mut settings = settings(number, payload.len(), &mut random);
             if random.once_in(20) {
                 settings.sf = random.byte() % 16;
-                settings.cr = random.byte() % 8;
+                let (Kind::Explicit { cr, .. } | Kind::Agreed { cr, .. }) = &mut settings.kind;
+                *cr = random.byte() % 8;
             }
-            let mut payload = cases::payload(&mut random);
+            // Agreed was another length then, mostly.
             if random.once_in(50) {
                 payload.resize(random.below(300), 7);
             }
@@ -358,21 +429,26 @@ mod tests {
     #[test]
     fn reads_as_plain_does() {
         let mut random = Random::new(2);
-        for number in 0..100_000 {
-            let kind = random.pick(&cases::KINDS);
-            let mut frame = cases::frame(
-                kind,
-                &cases::settings(number % cases::SETTINGS),
-                &mut random,
-            );
+        for number in 0..200_000 {
+            let payload = cases::payload(&mut random);
+            let settings = settings(number, payload.len(), &mut random);
+            let mut frame = cases::any_frame(&settings, &payload, &mut random);
             if random.once_in(50) {
                 frame.sf = random.byte();
             }
+            if let Expected::Agreed { length, cr, .. } = &mut frame.expected {
+                if random.once_in(50) {
+                    *cr = random.byte();
+                }
+                if random.once_in(50) {
+                    *length = random.number() as usize;
+                }
+            }
             reads_alike(&frame, &mut random);
         }
-        for number in 0..20_000 {
-            let settings = cases::settings(number % cases::SETTINGS);
+        for number in 0..40_000 {
             let payload = cases::payload(&mut random);
+            let settings = settings(number, payload.len(), &mut random);
             let ways = random.pick(&hurts::WAYS);
             let hurt = hurts::frame(&settings, payload, ways, &mut random);
             reads_alike(&hurt.frame, &mut random);
@@ -392,10 +468,20 @@ mod tests {
         let (mut out, mut cells) = (lent(MOST_BYTES), lent(MOST_SYMBOLS));
         let (mut wanted_out, mut wanted_cells) = (out.clone(), cells.clone());
         let cases::Frame {
-            sf, low, symbols, ..
-        } = frame;
-        let answer = read(*sf, *low, symbols, &mut out, &mut cells);
-        let plainly = plain::read(*sf, *low, symbols, &mut wanted_out, &mut wanted_cells);
+            sf,
+            low,
+            expected,
+            ref symbols,
+        } = *frame;
+        let answer = read(sf, low, expected, symbols, &mut out, &mut cells);
+        let plainly = plain::read(
+            sf,
+            low,
+            expected,
+            symbols,
+            &mut wanted_out,
+            &mut wanted_cells,
+        );
         assert_eq!(answer, plainly, "{frame:?}");
         assert_eq!(out, wanted_out, "{frame:?}");
         assert_eq!(cells, wanted_cells, "{frame:?}");

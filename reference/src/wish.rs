@@ -2,10 +2,12 @@
 //!
 //! A line is `SF low CR flag payload`, the payload in hex of either case or `-`
 //! if empty; only spaces stand between words. The answer is `SF low symbol ..`,
-//! as the reading program takes it, or `no NUMBER PLACE`.
+//! as the reading program takes it, or `no NUMBER PLACE`. A line for a frame without
+//! a header has the mark `=` and the agreed length before it, and its answer is a
+//! capture of such a frame, `= length CR flag SF low symbol ..`.
 
-use crate::types::{refuse, Refusal, Settings};
-use crate::words::{byte, number, refusal_line, words};
+use crate::types::{refuse, Kind, Refusal, Settings};
+use crate::words::{behind_mark, byte, number, refusal_line, words};
 use crate::{plain, MOST_SYMBOLS};
 
 /// What a line asks for.
@@ -17,39 +19,69 @@ struct Wish {
 /// The line that the program prints for this one, which is given without the
 /// byte 10 at its end.
 pub fn answer_line(line: &[u8]) -> Vec<u8> {
-    let answer = match frame_numbers(line) {
-        Ok(numbers) => {
-            let words: Vec<String> = numbers.iter().map(u16::to_string).collect();
-            words.join(" ") + "\n"
-        }
+    let answer = match capture(line) {
+        Ok(capture) => capture + "\n",
         Err(refusal) => refusal_line(refusal),
     };
     answer.into_bytes()
 }
 
-/// SF, low rate and the symbols.
-fn frame_numbers(line: &[u8]) -> Result<Vec<u16>, Refusal> {
+/// The capture of the frame that a line asks for.
+fn capture(line: &[u8]) -> Result<String, Refusal> {
     // The whole text is judged before its meaning.
     let Some(Wish { settings, payload }) = wish(line) else {
         return refuse(14, 0);
     };
     let mut symbols = [0; MOST_SYMBOLS];
     let count = plain::code(&settings, &payload, &mut symbols)?;
-    let mut numbers = vec![settings.sf.into(), settings.low.into()];
-    numbers.extend(&symbols[..count]);
-    Ok(numbers)
+    let Settings { sf, low, kind } = settings;
+    let mut words = match kind {
+        Kind::Explicit { .. } => Vec::new(),
+        Kind::Agreed {
+            length,
+            cr,
+            checksum,
+        } => vec![
+            "=".to_string(),
+            length.to_string(),
+            cr.to_string(),
+            u8::from(checksum).to_string(),
+        ],
+    };
+    words.extend([sf, u8::from(low)].map(|number| number.to_string()));
+    words.extend(symbols[..count].iter().map(u16::to_string));
+    Ok(words.join(" "))
 }
 
 fn wish(line: &[u8]) -> Option<Wish> {
-    let words: Vec<&[u8]> = words(line, |byte| byte == b' ').collect();
-    let [sf, low, cr, checksum, payload] = words[..] else {
+    let Some(text) = behind_mark(line) else {
+        return with_header(&words_of(line));
+    };
+    let words = words_of(text);
+    let (length, words) = words.split_first()?;
+    let length = usize::from(number(length)?);
+    let Wish { settings, payload } = with_header(words)?;
+    Some(Wish {
+        settings: settings.without_header(length),
+        payload,
+    })
+}
+
+fn words_of(text: &[u8]) -> Vec<&[u8]> {
+    words(text, |byte| byte == b' ').collect()
+}
+
+fn with_header(words: &[&[u8]]) -> Option<Wish> {
+    let [sf, low, cr, checksum, payload] = words else {
         return None;
     };
     let settings = Settings {
         sf: byte(number(sf)?),
         low: flag(low)?,
-        cr: byte(number(cr)?),
-        checksum: flag(checksum)?,
+        kind: Kind::Explicit {
+            cr: byte(number(cr)?),
+            checksum: flag(checksum)?,
+        },
     };
     let payload = payload_of(payload)?;
     Some(Wish { settings, payload })

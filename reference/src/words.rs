@@ -1,7 +1,14 @@
-//! What the programs' texts have in common: words, numbers, hex and the line of
-//! a refusal.
+//! What the programs' texts have in common: the mark, words, numbers, hex and the
+//! line of a refusal.
 
 use crate::types::Refusal;
+
+/// What stands behind the mark `=`, if a line has it as its first byte that is not
+/// a space: it says a frame without a header (document 02, Ask 4).
+pub fn behind_mark(line: &[u8]) -> Option<&[u8]> {
+    let first = line.iter().position(|byte| *byte != b' ')?;
+    line[first..].strip_prefix(b"=")
+}
 
 /// The words between separators. One or more separators stand between two
 /// words, and may stand first and last.

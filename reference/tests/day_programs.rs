@@ -3,7 +3,7 @@
 
 use reference::keep::keep;
 use reference::show::show;
-use reference::types::Refusal;
+use reference::types::{Kind, Refusal, Settings};
 
 /// SF 7, empty, CR 1, flag off.
 const EMPTY: &str = "7 0 124 48 28 0 56 28 12 0";
@@ -63,14 +63,47 @@ fn settings_by_first_use() {
     );
 }
 
+/// Frames with and without a header in one day (document 02, Ask 4).
+#[test]
+fn both_kinds() {
+    let input = [
+        "= 1 1 0 7 0 4 0 0 32 12 8 4 124",   // 76 hex
+        EMPTY,                               // the same setting
+        "= 256 1 0 7 0 4",                   // line 3: no length
+        "= 1 5 0 12 1 4",                    // line 4: no CR
+        "= 1 1 0 13 1 4",                    // line 5: no SF
+        "= 1 1 2 7 1 4",                     // line 6: no flag
+        "= 255 4 1 7 1",                     // refused with 5, place 824: the second setting
+        "= 0 2 1 7 1 40 0 0 0 0 0 0 0",      // four repairs, no bytes
+        "=1 3 0 7 1 0 0 0 60 12 8 4 124",    // refused with 7, place 0
+        "= 0 1 1 7 0 4 0 0 0 12 0 124 60",   // refused with 12
+        "= 0 4 0 7 0 1 2 3 4 5 6 128 65535", // refused with 6, place 6
+        TWO,                                 // the third setting
+    ]
+    .join("\n");
+    let file = [
+        &[1, 3, 7, 0, 7, 1, 11, 0][..],
+        &[4, 0, 1, 0, 0, 0, 1, 0x76],
+        &[0, 1, 0, 0, 0, 0],
+        &[1, 2, 1, 4, 0, 0],
+        &[2, 1, 1, 0, 0, 2, 0, 0],
+        &[4, 1, 5, 56, 3, 1, 7, 0, 0, 0, 12, 0, 0, 0, 6, 6, 0],
+    ]
+    .concat();
+    let errors = "line 3: no 3 0\nline 4: no 2 0\nline 5: no 1 0\nline 6: no 14 0\nkept 4 1 4 4\n";
+    assert_eq!(kept(&input), (file, errors.to_string()));
+}
+
 /// The largest frame, cut after eight symbols, lacks the 832nd: 64 and 3 times 256.
 #[test]
 fn place_in_two_bytes() {
-    let settings = reference::types::Settings {
+    let settings = Settings {
         sf: 7,
         low: true,
-        cr: 4,
-        checksum: true,
+        kind: Kind::Explicit {
+            cr: 4,
+            checksum: true,
+        },
     };
     let mut symbols = [0; 832];
     reference::plain::code(&settings, &[0; 255], &mut symbols).unwrap();

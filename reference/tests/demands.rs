@@ -1,14 +1,15 @@
 //! Demands 2 and 3 and the claims of document 02, Asks 2 and 3, tried over every
-//! setting with random payloads, on `plain` and `tuned`.
+//! setting with random payloads, with and without a header (Ask 4), on `plain` and
+//! `tuned`. Without a header the reader uses the sender's agreed values.
 
 use reference::cases::{self, blocks, moved};
 use reference::plain::{self, block::Block};
 use reference::random::Random;
 use reference::tuned;
-use reference::types::{Header, Read, Received, Refusal, Settings};
+use reference::types::{Header, Kind, Read, Received, Refusal, Settings};
 use reference::{MOST_BYTES, MOST_SYMBOLS};
 
-/// Frames of each setting.
+/// Frames of each setting and kind.
 const TIMES: usize = 50;
 
 const READERS: [(&str, Read); 2] = [("plain", plain::read), ("tuned", tuned::read)];
@@ -27,8 +28,11 @@ struct Sent {
 }
 
 impl Sent {
-    fn new(settings: Settings, random: &mut Random) -> Sent {
+    fn new(mut settings: Settings, has_header: bool, random: &mut Random) -> Sent {
         let payload = cases::payload(random);
+        if !has_header {
+            settings = settings.without_header(payload.len());
+        }
         let mut symbols = vec![0; MOST_SYMBOLS];
         let count = plain::code(&settings, &payload, &mut symbols).unwrap();
         symbols.truncate(count);
@@ -45,8 +49,8 @@ impl Sent {
         let received = Received {
             header: Header {
                 length: self.payload.len(),
-                cr: self.settings.cr,
-                checksum: self.settings.checksum,
+                cr: self.settings.kind.cr(),
+                checksum: self.settings.kind.checksum(),
             },
             symbols,
             repairs: 0,
@@ -60,8 +64,8 @@ impl Sent {
     /// are all if it refuses them.
     fn arrived(&self, read: Read, symbols: &[u16]) -> Answered {
         let (mut out, mut hurts) = ([PAINT; MOST_BYTES], [PAINT; MOST_SYMBOLS]);
-        let Settings { sf, low, .. } = self.settings;
-        let answer = read(sf, low, symbols, &mut out, &mut hurts);
+        let Settings { sf, low, kind } = self.settings;
+        let answer = read(sf, low, kind.expected(), symbols, &mut out, &mut hurts);
         let (bytes, cells) = answer.map_or((0, 0), |received| {
             (received.header.length, received.symbols)
         });
@@ -70,6 +74,14 @@ impl Sent {
         let received = answer?;
         assert_eq!(out[..bytes], self.payload, "{symbols:?}");
         Ok((received, hurts[..cells].to_vec()))
+    }
+
+    /// Codewords that stand before the data.
+    fn header_codewords(&self) -> usize {
+        match self.settings.kind {
+            Kind::Explicit { .. } => 5,
+            Kind::Agreed { .. } => 0,
+        }
     }
 
     /// How many symbols, from the first on, have the four-wide spacing.
@@ -82,12 +94,12 @@ impl Sent {
     }
 }
 
-/// Frames of every setting.
+/// Frames of every setting, with and without a header.
 fn each_sent(seed: u64, mut try_one: impl FnMut(&Sent, &mut Random)) {
     let mut random = Random::new(seed);
     for number in 0..cases::SETTINGS {
-        for _ in 0..TIMES {
-            let sent = Sent::new(cases::settings(number), &mut random);
+        for i in 0..2 * TIMES {
+            let sent = Sent::new(cases::settings(number), i % 2 == 0, &mut random);
             try_one(&sent, &mut random);
         }
     }
@@ -128,7 +140,9 @@ fn drifted_symbols_need_no_repair() {
             let received = sent.arrived(read, &symbols);
             assert_eq!(received.as_ref(), Ok(&wanted), "{name} {:?}", sent.settings);
         }
-        assert_eq!(plain::head(sent.settings.sf, &symbols), Ok(wanted.0.header));
+        if sent.header_codewords() > 0 {
+            assert_eq!(plain::head(sent.settings.sf, &symbols), Ok(wanted.0.header));
+        }
     });
 }
 
@@ -136,13 +150,13 @@ fn drifted_symbols_need_no_repair() {
 /// every other frame those at the four-wide spacing have drifted besides, which
 /// leaves their values.
 fn change(sent: &Sent, most: usize, random: &mut Random) -> Vec<u16> {
-    let Settings { sf, cr, .. } = sent.settings;
+    let Settings { sf, kind, .. } = sent.settings;
     let mut symbols = if random.flag() {
         drifted(sent, random).0
     } else {
         sent.symbols.clone()
     };
-    for block in blocks(&mut symbols, cr) {
+    for block in blocks(&mut symbols, kind.cr()) {
         for _ in 0..random.below(most + 1) {
             block[random.below(block.len())] = cases::any_symbol(sf, random);
         }
@@ -153,20 +167,16 @@ fn change(sent: &Sent, most: usize, random: &mut Random) -> Vec<u16> {
 /// The words that a frame's blocks carry, in frame order, those that are read, each
 /// with the first symbol of its block.
 fn words(sent: &Sent, symbols: &[u16]) -> Vec<(u8, usize)> {
-    let Settings {
-        sf,
-        low,
-        cr,
-        checksum,
-    } = sent.settings;
-    let (first, later) = (Block::first(sf), Block::later(sf, low, cr));
+    let Settings { sf, low, kind } = sent.settings;
+    let (first, later) = (Block::first(sf), Block::later(sf, low, kind.cr()));
     let mut words = Vec::new();
     for start in std::iter::once(0).chain((8..symbols.len()).step_by(later.width())) {
         let block = if start == 0 { &first } else { &later };
         let bits = block.words(&symbols[start..start + block.width()]);
         words.extend(bits.into_iter().map(|bits| (bits, start)));
     }
-    words.truncate(5 + 2 * sent.payload.len() + if checksum { 4 } else { 0 });
+    let data = 2 * sent.payload.len() + if kind.checksum() { 4 } else { 0 };
+    words.truncate(sent.header_codewords() + data);
     words
 }
 
@@ -213,9 +223,11 @@ fn demanded(sent: &Sent, arrived: &[u16], lost: impl Fn(usize, u32) -> bool) -> 
 fn one_symbol_changed_in_each_block() {
     each_sent(3, |sent, random| {
         let symbols = change(sent, 1, random);
-        let Settings { sf, cr, .. } = sent.settings;
+        let Settings { sf, kind, .. } = sent.settings;
         let first = usize::from(sf) - 2;
-        let wanted = demanded(sent, &symbols, |i, bits| cr <= 2 && i >= first && bits > 0);
+        let wanted = demanded(sent, &symbols, |i, bits| {
+            kind.cr() <= 2 && i >= first && bits > 0
+        });
         for (name, read) in READERS {
             let received = sent.arrived(read, &symbols);
             assert_eq!(received, wanted, "{name} {:?}", sent.settings);
@@ -228,7 +240,7 @@ fn one_symbol_changed_in_each_block() {
 #[test]
 fn two_symbols_changed_in_each_block() {
     each_sent(4, |sent, random| {
-        if sent.settings.cr < 4 {
+        if sent.settings.kind.cr() < 4 {
             return;
         }
         let symbols = change(sent, 2, random);

@@ -2,27 +2,33 @@
 //! of the two programs.
 
 use reference::plain::{self, block, bytes, codeword::codeword, header};
-use reference::types::{Header, Read, Received, Refusal, Settings};
+use reference::types::{Expected, Header, Kind, Read, Received, Refusal, Settings};
 use reference::{text, tuned, wish};
 
 const EMPTY: Settings = Settings {
     sf: 7,
     low: false,
-    cr: 1,
-    checksum: false,
+    kind: Kind::Explicit {
+        cr: 1,
+        checksum: false,
+    },
 };
 const EMPTY_FRAME: [u16; 8] = [124, 48, 28, 0, 56, 28, 12, 0];
 const SF_11: Settings = Settings {
     sf: 11,
     low: false,
-    cr: 1,
-    checksum: true,
+    kind: Kind::Explicit {
+        cr: 1,
+        checksum: true,
+    },
 };
 const LARGEST: Settings = Settings {
     sf: 7,
     low: true,
-    cr: 4,
-    checksum: true,
+    kind: Kind::Explicit {
+        cr: 4,
+        checksum: true,
+    },
 };
 
 fn coded(settings: &Settings, payload: &[u8]) -> Vec<u16> {
@@ -35,7 +41,7 @@ fn coded(settings: &Settings, payload: &[u8]) -> Vec<u16> {
 fn read_with_first(symbols: &[u16]) -> Result<Received, Refusal> {
     let mut frame = EMPTY_FRAME;
     frame[..symbols.len()].copy_from_slice(symbols);
-    plain::read(7, false, &frame, &mut [], &mut [0; 8])
+    plain::read(7, false, Expected::Explicit, &frame, &mut [], &mut [0; 8])
 }
 
 fn read(text: &str) -> String {
@@ -55,7 +61,9 @@ fn repairs_with_first(symbol: u16) -> usize {
 fn drift_with_first(read: Read, sf: u8, symbol: u16) -> i8 {
     let mut frame = coded(&Settings { sf, ..EMPTY }, &[]);
     frame[0] = symbol;
-    read(sf, false, &frame, &mut [], &mut [0; 8]).unwrap().drift
+    read(sf, false, Expected::Explicit, &frame, &mut [], &mut [0; 8])
+        .unwrap()
+        .drift
 }
 
 #[test]
@@ -133,7 +141,14 @@ fn damaged_frames() {
             place: 0
         })
     );
-    let seven = plain::read(7, false, &EMPTY_FRAME[..7], &mut [], &mut []);
+    let seven = plain::read(
+        7,
+        false,
+        Expected::Explicit,
+        &EMPTY_FRAME[..7],
+        &mut [],
+        &mut [],
+    );
     assert_eq!(
         seven,
         Err(Refusal {
@@ -218,7 +233,14 @@ fn refused_settings() {
         assert_eq!(plain::airtime(&settings, 0, 125, 8), Err(refusal));
         assert_eq!(plain::head(sf, &EMPTY_FRAME), Err(refusal));
         assert_eq!(
-            plain::read(sf, false, &EMPTY_FRAME, &mut [], &mut []),
+            plain::read(
+                sf,
+                false,
+                Expected::Explicit,
+                &EMPTY_FRAME,
+                &mut [],
+                &mut []
+            ),
             Err(refusal)
         );
     }

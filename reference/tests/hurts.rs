@@ -3,7 +3,7 @@
 
 use reference::cases::{self, hurts};
 use reference::random::Random;
-use reference::types::{Read, Received, Refusal};
+use reference::types::{Expected, Read, Received, Refusal, Settings};
 use reference::{hurt, plain, tuned, MOST_BYTES, MOST_SYMBOLS};
 
 const READERS: [(&str, Read); 2] = [("plain", plain::read), ("tuned", tuned::read)];
@@ -29,7 +29,13 @@ struct Outcome {
 /// Reads into so many painted cells.
 fn read_into(read: Read, frame: &cases::Frame, out: usize, hurts: usize) -> Outcome {
     let (mut out, mut hurts) = (vec![PAINT; out], vec![PAINT; hurts]);
-    let answer = read(frame.sf, frame.low, &frame.symbols, &mut out, &mut hurts);
+    let cases::Frame {
+        sf,
+        low,
+        expected,
+        symbols,
+    } = frame;
+    let answer = read(*sf, *low, *expected, symbols, &mut out, &mut hurts);
     Outcome { answer, out, hurts }
 }
 
@@ -54,8 +60,8 @@ fn sf_7(symbols: &[u16]) -> cases::Frame {
     cases::Frame {
         sf: 7,
         low: false,
+        expected: Expected::Explicit,
         symbols: symbols.to_vec(),
-        length: 0,
     }
 }
 
@@ -158,25 +164,36 @@ fn order_of_the_refusals() {
     }
 }
 
+/// Settings with a header and without one, for payloads of so many bytes.
+fn both_kinds(number: usize, length: usize) -> [Settings; 2] {
+    let settings = cases::settings(number % cases::SETTINGS);
+    [settings, settings.without_header(length)]
+}
+
 /// What is known from how a frame was hurt.
 #[test]
 fn hurt_frames() {
     let mut random = Random::new(6);
     for number in 0..50 * cases::SETTINGS {
-        let settings = cases::settings(number % cases::SETTINGS);
         let payload = cases::payload(&mut random);
-        let ways = random.pick(&hurts::WAYS);
-        let hurt = hurts::frame(&settings, payload, ways, &mut random);
-        let (length, symbols) = (hurt.payload.len(), hurt.hurts.len());
-        for (name, read) in READERS {
-            let outcome = read_into(read, &hurt.frame, MOST_BYTES, MOST_SYMBOLS);
-            let received = outcome.answer.unwrap();
-            assert_eq!(received.symbols, symbols, "{name} {settings:?}");
-            assert_eq!(outcome.out[..length], hurt.payload, "{name} {settings:?}");
-            assert!(painted(&outcome.out[length..]), "{name} {settings:?}");
-            assert_eq!(outcome.hurts[..symbols], hurt.hurts, "{name} {settings:?}");
-            assert!(painted(&outcome.hurts[symbols..]), "{name} {settings:?}");
+        for settings in both_kinds(number, payload.len()) {
+            hurt_as_known(&settings, &payload, &mut random);
         }
+    }
+}
+
+fn hurt_as_known(settings: &Settings, payload: &[u8], random: &mut Random) {
+    let ways = random.pick(&hurts::WAYS);
+    let hurt = hurts::frame(settings, payload.to_vec(), ways, random);
+    let (length, symbols) = (payload.len(), hurt.hurts.len());
+    for (name, read) in READERS {
+        let outcome = read_into(read, &hurt.frame, MOST_BYTES, MOST_SYMBOLS);
+        let received = outcome.answer.unwrap();
+        assert_eq!(received.symbols, symbols, "{name} {settings:?}");
+        assert_eq!(&outcome.out[..length], payload, "{name} {settings:?}");
+        assert!(painted(&outcome.out[length..]), "{name} {settings:?}");
+        assert_eq!(outcome.hurts[..symbols], hurt.hurts, "{name} {settings:?}");
+        assert!(painted(&outcome.hurts[symbols..]), "{name} {settings:?}");
     }
 }
 
@@ -186,25 +203,31 @@ fn hurt_frames() {
 fn any_frames() {
     let mut random = Random::new(7);
     for number in 0..200 * cases::SETTINGS {
-        let kind = random.pick(&cases::KINDS);
-        let settings = cases::settings(number % cases::SETTINGS);
-        let frame = cases::frame(kind, &settings, &mut random);
-        let most = |most, random: &mut Random| match random.once_in(8) {
-            true => random.below(most),
-            false => most,
-        };
-        let out = most(MOST_BYTES, &mut random);
-        let cells = most(MOST_SYMBOLS, &mut random);
-        for (name, read) in READERS {
-            let Outcome { answer, out, hurts } = read_into(read, &frame, out, cells);
-            let (bytes, symbols, repairs) = answer.map_or((0, 0, 0), |received| {
-                (received.header.length, received.symbols, received.repairs)
-            });
-            let sum: usize = hurts[..symbols].iter().map(|&cell| usize::from(cell)).sum();
-            assert_eq!(sum, repairs, "{name} {frame:?}");
-            assert!(painted(&out[bytes..]), "{name} {frame:?}");
-            assert!(painted(&hurts[symbols..]), "{name} {frame:?}");
+        let payload = cases::payload(&mut random);
+        for settings in both_kinds(number, payload.len()) {
+            adds_up(
+                &cases::any_frame(&settings, &payload, &mut random),
+                &mut random,
+            );
         }
+    }
+}
+
+fn adds_up(frame: &cases::Frame, random: &mut Random) {
+    let mut cells = |most| match random.once_in(8) {
+        true => random.below(most),
+        false => most,
+    };
+    let (out, cells) = (cells(MOST_BYTES), cells(MOST_SYMBOLS));
+    for (name, read) in READERS {
+        let Outcome { answer, out, hurts } = read_into(read, frame, out, cells);
+        let (bytes, symbols, repairs) = answer.map_or((0, 0, 0), |received| {
+            (received.header.length, received.symbols, received.repairs)
+        });
+        let sum: usize = hurts[..symbols].iter().map(|&cell| usize::from(cell)).sum();
+        assert_eq!(sum, repairs, "{name} {frame:?}");
+        assert!(painted(&out[bytes..]), "{name} {frame:?}");
+        assert!(painted(&hurts[symbols..]), "{name} {frame:?}");
     }
 }
 

@@ -78,6 +78,50 @@ extern "C" {
         answer_len: usize,
     ) -> u8;
 
+    /// As [`lora_count`], for frames without a header: `agreed` is the agreed
+    /// length, and 3 is also given for any other `length`.
+    pub fn lora_count_agreed(
+        sf: u8,
+        low: u8,
+        agreed: usize,
+        cr: u8,
+        checksum: u8,
+        length: usize,
+        answer: *mut u64,
+        answer_len: usize,
+    ) -> u8;
+
+    /// As [`lora_airtime`], for frames without a header: `agreed` is the agreed
+    /// length, and 3 is also given for any other `length`.
+    pub fn lora_airtime_agreed(
+        sf: u8,
+        low: u8,
+        agreed: usize,
+        cr: u8,
+        checksum: u8,
+        length: usize,
+        khz: u16,
+        preamble: u16,
+        answer: *mut u64,
+        answer_len: usize,
+    ) -> u8;
+
+    /// As [`lora_code`], for a frame without a header: `agreed` is the agreed
+    /// length, and 3 is also given for a payload of any other.
+    pub fn lora_code_agreed(
+        sf: u8,
+        low: u8,
+        agreed: usize,
+        cr: u8,
+        checksum: u8,
+        payload: *const u8,
+        payload_len: usize,
+        out: *mut u16,
+        out_len: usize,
+        answer: *mut u64,
+        answer_len: usize,
+    ) -> u8;
+
     /// Answers length, CR and checksum flag (0 or 1) in `answer[0]` to
     /// `answer[2]`. Checks 1, 5, 6, 7, 9, 10, 11.
     pub fn lora_head(
@@ -97,6 +141,25 @@ extern "C" {
     pub fn lora_read(
         sf: u8,
         low: u8,
+        symbols: *const u16,
+        symbols_len: usize,
+        out: *mut u8,
+        out_len: usize,
+        hurts: *mut u8,
+        hurts_len: usize,
+        answer: *mut u64,
+        answer_len: usize,
+    ) -> u8;
+
+    /// As [`lora_read`], for a frame without a header: `agreed` is the agreed
+    /// length, and length, CR and checksum flag are answered as they were agreed
+    /// on. Checks 1, 2, 3, 4 for `out`, 4 for `hurts`, 5, 6, 7, 12.
+    pub fn lora_read_agreed(
+        sf: u8,
+        low: u8,
+        agreed: usize,
+        cr: u8,
+        checksum: u8,
         symbols: *const u16,
         symbols_len: usize,
         out: *mut u8,

@@ -1,9 +1,10 @@
 //! The digital half of a LoRa transceiver: payload bytes to symbol numbers
 //! ([`code`]), symbol numbers to payload ([`read`]), the header alone
 //! ([`head`]), the number of symbols ([`count`]), the time on air
-//! ([`airtime`]). Explicit header only. And the day's file, what was received in
-//! a day: written ([`day_write`]), checked ([`day_check`]) and walked
-//! ([`day_step`]).
+//! ([`airtime`]). Frames have a header that says their length, code rate and
+//! checksum flag, or have none, and sender and receiver have agreed on these
+//! ([`Kind`]). And the day's file, what was received in a day: written
+//! ([`day_write`]), checked ([`day_check`]) and walked ([`day_step`]).
 //!
 //! This is a thin wrapper of Chyvandra's static library, whose functions are
 //! proved to answer what is told here for every input: slices and `Result` here,
@@ -22,23 +23,33 @@
 //! `liblora_c.a` (x86-64 Linux).
 //!
 //! ```
-//! use chyvandra::{code, read, Settings, MOST_BYTES, MOST_SYMBOLS};
+//! use chyvandra::{code, read, Expected, Kind, Settings, MOST_BYTES, MOST_SYMBOLS};
 //!
 //! # fn main() -> Result<(), chyvandra::Refusal> {
-//! let settings = Settings { sf: 9, low: false, cr: 4, checksum: true };
+//! let kind = Kind::Explicit { cr: 4, checksum: true };
+//! let settings = Settings { sf: 9, low: false, kind };
 //! let mut symbols = [0; MOST_SYMBOLS];
 //! let count = code(&settings, b"open", &mut symbols)?;
 //!
 //! let (mut payload, mut hurts) = ([0; MOST_BYTES], [0; MOST_SYMBOLS]);
-//! let received = read(9, false, &symbols[..count], &mut payload, &mut hurts)?;
+//! let frame = &symbols[..count];
+//! let received = read(9, false, Expected::Explicit, frame, &mut payload, &mut hurts)?;
 //! assert_eq!(&payload[..received.header.length], b"open");
 //! assert_eq!((received.repairs, received.drift), (0, 0));
 //!
 //! // A symbol one off, behind the first block: one bit is wrong, and repaired.
 //! symbols[9] ^= 1;
-//! let received = read(9, false, &symbols[..count], &mut payload, &mut hurts)?;
+//! let frame = &symbols[..count];
+//! let received = read(9, false, Expected::Explicit, frame, &mut payload, &mut hurts)?;
 //! assert_eq!(&payload[..received.header.length], b"open");
 //! assert_eq!((received.repairs, hurts[9]), (1, 1));
+//!
+//! // The same payload without a header: its receiver knows what was agreed on.
+//! let kind = Kind::Agreed { length: 4, cr: 4, checksum: true };
+//! let count = code(&Settings { kind, ..settings }, b"open", &mut symbols)?;
+//! let frame = &symbols[..count];
+//! let received = read(9, false, kind.into(), frame, &mut payload, &mut hurts)?;
+//! assert_eq!(&payload[..received.header.length], b"open");
 //! # Ok(())
 //! # }
 //! ```
@@ -69,13 +80,69 @@ pub struct Settings {
     pub sf: u8,
     /// Low-rate flag.
     pub low: bool,
-    /// Code rate, 1 to 4 for 4/5 to 4/8.
-    pub cr: u8,
-    /// Whether a checksum follows the payload.
-    pub checksum: bool,
+    /// Whether frames have a header, and how they are sent.
+    pub kind: Kind,
 }
 
-/// What a frame's header says.
+/// How frames are sent: with a header, which says their length, code rate and
+/// checksum flag, or without one.
+#[derive(Clone, Copy, Debug, PartialEq, Eq, Hash)]
+pub enum Kind {
+    /// With a header.
+    Explicit {
+        /// Code rate, 1 to 4 for 4/5 to 4/8.
+        cr: u8,
+        /// Whether a checksum follows the payload.
+        checksum: bool,
+    },
+    /// Without a header: sender and receiver have agreed on what it would say.
+    Agreed {
+        /// The payload's bytes, 0 to 255. A payload of any other length is
+        /// refused.
+        length: usize,
+        /// Code rate, 1 to 4 for 4/5 to 4/8.
+        cr: u8,
+        /// Whether a checksum follows the payload.
+        checksum: bool,
+    },
+}
+
+/// What the receiver of a frame expects. Numbers out of range are refused.
+#[derive(Clone, Copy, Debug, PartialEq, Eq, Hash)]
+pub enum Expected {
+    /// A frame with a header, which says length, code rate and checksum flag.
+    Explicit,
+    /// A frame without a header. If these are not what the sender has, wrong bytes
+    /// may be read.
+    Agreed {
+        /// The payload's bytes, 0 to 255.
+        length: usize,
+        /// Code rate, 1 to 4 for 4/5 to 4/8.
+        cr: u8,
+        /// Whether a checksum follows the payload.
+        checksum: bool,
+    },
+}
+
+/// What the receiver of such frames has to expect.
+impl From<Kind> for Expected {
+    fn from(kind: Kind) -> Expected {
+        match kind {
+            Kind::Explicit { .. } => Expected::Explicit,
+            Kind::Agreed {
+                length,
+                cr,
+                checksum,
+            } => Expected::Agreed {
+                length,
+                cr,
+                checksum,
+            },
+        }
+    }
+}
+
+/// What a frame's header says, or what was agreed on in its place.
 #[derive(Clone, Copy, Debug, PartialEq, Eq, Hash)]
 pub struct Header {
     /// The payload's bytes, 0 to 255.
@@ -89,7 +156,7 @@ pub struct Header {
 /// What reading a frame answers, next to the payload and the hurts.
 #[derive(Clone, Copy, Debug, PartialEq, Eq, Hash)]
 pub struct Received {
-    /// What the header says.
+    /// What the header says, or what was agreed on.
     pub header: Header,
     /// Symbols used: the frame's own.
     pub symbols: usize,
@@ -107,33 +174,58 @@ pub struct Received {
 /// # Errors
 ///
 /// In this order: [`RefusalKind::BadSf`], [`RefusalKind::BadCr`],
-/// [`RefusalKind::TooLong`], [`RefusalKind::OutShort`].
+/// [`RefusalKind::TooLong`], also for a payload that has not the agreed length,
+/// [`RefusalKind::OutShort`].
 pub fn code(settings: &Settings, payload: &[u8], out: &mut [u16]) -> Result<usize, Refusal> {
+    let Settings { sf, low, kind } = *settings;
+    let (bytes, length) = (payload.as_ptr(), payload.len());
+    let (out, out_len) = (out.as_mut_ptr(), out.len());
     let mut answer = [0; ffi::NUMBER_CELLS];
+    let (cells, cells_len) = (answer.as_mut_ptr(), answer.len());
+    let low = low.into();
     // SAFETY: each pointer and length is those of one live slice, and the slices
     // don't overlap.
     let number = unsafe {
-        ffi::lora_code(
-            settings.sf,
-            settings.low.into(),
-            settings.cr,
-            settings.checksum.into(),
-            payload.as_ptr(),
-            payload.len(),
-            out.as_mut_ptr(),
-            out.len(),
-            answer.as_mut_ptr(),
-            answer.len(),
-        )
+        match kind {
+            Kind::Explicit { cr, checksum } => ffi::lora_code(
+                sf,
+                low,
+                cr,
+                checksum.into(),
+                bytes,
+                length,
+                out,
+                out_len,
+                cells,
+                cells_len,
+            ),
+            Kind::Agreed {
+                length: agreed,
+                cr,
+                checksum,
+            } => ffi::lora_code_agreed(
+                sf,
+                low,
+                agreed,
+                cr,
+                checksum.into(),
+                bytes,
+                length,
+                out,
+                out_len,
+                cells,
+                cells_len,
+            ),
+        }
     };
     accepted(number, answer).map(|[symbols]| symbols as usize)
 }
 
 /// Reads the frame at the front of `symbols`: writes its payload to `out`, from
 /// `out[0]` on, and how many repaired bits stood in each of its symbols to `hurts`,
-/// from `hurts[0]` on; answers what the header says, how many symbols were the
-/// frame's own, how many codewords were repaired and how far the first symbol was
-/// from its mark. Symbols after the frame's own are ignored.
+/// from `hurts[0]` on; answers what the header says, or what was agreed on, how many
+/// symbols were the frame's own, how many codewords were repaired and how far the
+/// first symbol was from its mark. Symbols after the frame's own are ignored.
 ///
 /// What accepted means: read with the sender's own SF and low-rate setting,
 /// which the frame does not carry, the symbols are a frame by the rules. It is
@@ -143,36 +235,71 @@ pub fn code(settings: &Settings, payload: &[u8], out: &mut [u16]) -> Result<usiz
 /// be accepted: seldom with the checksum on at 4/5, 4/6 and 4/8, more often at 4/7
 /// or with the checksum off.
 ///
+/// A frame without a header does not carry its length, code rate and checksum flag
+/// either: all this holds where they are read as the sender's own. Read with other
+/// agreed values, an unharmed frame may be accepted with wrong bytes, and no repair
+/// need show it: with the checksum off often, and always if nothing but the length is
+/// wrong and too short; with the checksum on seldom.
+///
 /// # Errors
 ///
-/// Those of [`head`]; then, in this order, [`RefusalKind::OutShort`] for `out`,
-/// which needs a cell for each byte; [`RefusalKind::OutShort`] for `hurts`, which
-/// needs one for each symbol of the frame; [`RefusalKind::FewSymbols`] for the
-/// whole frame, [`RefusalKind::SymbolOver`] over the rest,
+/// Of a frame with a header those of [`head`]; of one without, in this order,
+/// [`RefusalKind::BadSf`], [`RefusalKind::BadCr`] and [`RefusalKind::TooLong`] for
+/// an agreed length above 255. Then, in this order, [`RefusalKind::OutShort`] for
+/// `out`, which needs a cell for each byte; [`RefusalKind::OutShort`] for `hurts`,
+/// which needs one for each symbol of the frame; [`RefusalKind::FewSymbols`] for the
+/// whole frame, [`RefusalKind::SymbolOver`] over its symbols, lowest index first,
 /// [`RefusalKind::Unreadable`] over data codewords in frame order,
 /// [`RefusalKind::Checksum`].
 pub fn read(
     sf: u8,
     low: bool,
+    expected: Expected,
     symbols: &[u16],
     out: &mut [u8],
     hurts: &mut [u8],
 ) -> Result<Received, Refusal> {
+    let (symbols, symbols_len) = (symbols.as_ptr(), symbols.len());
+    let (out, out_len) = (out.as_mut_ptr(), out.len());
+    let (hurts, hurts_len) = (hurts.as_mut_ptr(), hurts.len());
     let mut answer = [0; ffi::READ_CELLS];
+    let (cells, cells_len) = (answer.as_mut_ptr(), answer.len());
+    let low = low.into();
     // SAFETY: as in `code`.
     let number = unsafe {
-        ffi::lora_read(
-            sf,
-            low.into(),
-            symbols.as_ptr(),
-            symbols.len(),
-            out.as_mut_ptr(),
-            out.len(),
-            hurts.as_mut_ptr(),
-            hurts.len(),
-            answer.as_mut_ptr(),
-            answer.len(),
-        )
+        match expected {
+            Expected::Explicit => ffi::lora_read(
+                sf,
+                low,
+                symbols,
+                symbols_len,
+                out,
+                out_len,
+                hurts,
+                hurts_len,
+                cells,
+                cells_len,
+            ),
+            Expected::Agreed {
+                length,
+                cr,
+                checksum,
+            } => ffi::lora_read_agreed(
+                sf,
+                low,
+                length,
+                cr,
+                checksum.into(),
+                symbols,
+                symbols_len,
+                out,
+                out_len,
+                hurts,
+                hurts_len,
+                cells,
+                cells_len,
+            ),
+        }
     };
     accepted(number, answer).map(|[length, cr, flag, used, repairs, drift]| Received {
         header: header([length, cr, flag]),
@@ -183,7 +310,8 @@ pub fn read(
     })
 }
 
-/// Reads the header alone, from the first eight symbols.
+/// Reads the header alone, from the first eight symbols. A frame without one is not
+/// for this function, which may take its first codewords for a header.
 ///
 /// # Errors
 ///
@@ -212,20 +340,33 @@ pub fn head(sf: u8, symbols: &[u16]) -> Result<Header, Refusal> {
 /// # Errors
 ///
 /// In this order: [`RefusalKind::BadSf`], [`RefusalKind::BadCr`],
-/// [`RefusalKind::TooLong`].
+/// [`RefusalKind::TooLong`], also for a length that is not the agreed one.
 pub fn count(settings: &Settings, length: usize) -> Result<usize, Refusal> {
+    let Settings { sf, low, kind } = *settings;
     let mut answer = [0; ffi::NUMBER_CELLS];
+    let (cells, cells_len) = (answer.as_mut_ptr(), answer.len());
+    let low = low.into();
     // SAFETY: as in `code`.
     let number = unsafe {
-        ffi::lora_count(
-            settings.sf,
-            settings.low.into(),
-            settings.cr,
-            settings.checksum.into(),
-            length,
-            answer.as_mut_ptr(),
-            answer.len(),
-        )
+        match kind {
+            Kind::Explicit { cr, checksum } => {
+                ffi::lora_count(sf, low, cr, checksum.into(), length, cells, cells_len)
+            }
+            Kind::Agreed {
+                length: agreed,
+                cr,
+                checksum,
+            } => ffi::lora_count_agreed(
+                sf,
+                low,
+                agreed,
+                cr,
+                checksum.into(),
+                length,
+                cells,
+                cells_len,
+            ),
+        }
     };
     accepted(number, answer).map(|[symbols]| symbols as usize)
 }
@@ -243,20 +384,41 @@ pub fn airtime(
     khz: u16,
     preamble: u16,
 ) -> Result<u64, Refusal> {
+    let Settings { sf, low, kind } = *settings;
     let mut answer = [0; ffi::NUMBER_CELLS];
+    let (cells, cells_len) = (answer.as_mut_ptr(), answer.len());
+    let low = low.into();
     // SAFETY: as in `code`.
     let number = unsafe {
-        ffi::lora_airtime(
-            settings.sf,
-            settings.low.into(),
-            settings.cr,
-            settings.checksum.into(),
-            length,
-            khz,
-            preamble,
-            answer.as_mut_ptr(),
-            answer.len(),
-        )
+        match kind {
+            Kind::Explicit { cr, checksum } => ffi::lora_airtime(
+                sf,
+                low,
+                cr,
+                checksum.into(),
+                length,
+                khz,
+                preamble,
+                cells,
+                cells_len,
+            ),
+            Kind::Agreed {
+                length: agreed,
+                cr,
+                checksum,
+            } => ffi::lora_airtime_agreed(
+                sf,
+                low,
+                agreed,
+                cr,
+                checksum.into(),
+                length,
+                khz,
+                preamble,
+                cells,
+                cells_len,
+            ),
+        }
     };
     accepted(number, answer).map(|[microseconds]| microseconds)
 }

@@ -12,7 +12,7 @@ pub enum RefusalKind {
     BadSf = 1,
     /// 2: CR not 1 to 4.
     BadCr = 2,
-    /// 3: length above 255.
+    /// 3: length above 255, or not the agreed one.
     TooLong = 3,
     /// 4: the lent output is too short. The place is the cells needed.
     OutShort = 4,
@@ -73,7 +73,7 @@ impl RefusalKind {
         match self {
             BadSf => "SF not 7 to 12",
             BadCr => "CR not 1 to 4",
-            TooLong => "length above 255",
+            TooLong => "length above 255, or not the agreed one",
             OutShort => "lent output too short",
             FewSymbols => "fewer symbols than needed",
             SymbolOver => "a symbol is 2^SF or more",

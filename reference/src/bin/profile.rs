@@ -2,7 +2,7 @@
 //! profiler: `profile code|read SF CR BYTES TIMES`.
 
 use reference::random::Random;
-use reference::types::Settings;
+use reference::types::{Expected, Kind, Settings};
 use reference::{plain, product, MOST_BYTES, MOST_SYMBOLS};
 use std::hint::black_box;
 
@@ -18,8 +18,10 @@ fn main() {
     let settings = Settings {
         sf: sf as u8,
         low: false,
-        cr: cr as u8,
-        checksum: true,
+        kind: Kind::Explicit {
+            cr: cr as u8,
+            checksum: true,
+        },
     };
     let payload = Random::new(length as u64).bytes(length);
     let mut symbols = vec![0; MOST_SYMBOLS];
@@ -33,7 +35,9 @@ fn main() {
             }
             "read" => {
                 let (bytes, hurts) = black_box((&mut bytes, &mut hurts));
-                black_box(product::read(settings.sf, false, &frame, bytes, hurts).unwrap());
+                let read =
+                    product::read(settings.sf, false, Expected::Explicit, &frame, bytes, hurts);
+                black_box(read.unwrap());
             }
             _ => panic!("profile code|read SF CR BYTES TIMES"),
         }

@@ -2,9 +2,9 @@
 //! them from how they were hurt (document 02, Ask 3).
 
 use super::{follow, moved, Frame, WITHIN};
-use crate::plain::{self, block::Block, header};
+use crate::plain::{self, block::Block};
 use crate::random::Random;
-use crate::types::{Header, Settings};
+use crate::types::Settings;
 
 /// How a block is hurt: no codeword in more than one bit.
 #[derive(Clone, Copy, Debug)]
@@ -45,22 +45,12 @@ pub struct Hurt {
 /// which does not repair. The fillers are hurt with the others, and are any at
 /// times; symbols may be off their marks, and others follow the frame.
 pub fn frame(settings: &Settings, payload: Vec<u8>, ways: &[Way], random: &mut Random) -> Hurt {
-    let Settings {
-        sf,
-        low,
-        cr,
-        checksum,
-    } = *settings;
-    let length = payload.len();
-    let head = header::nibbles(&Header {
-        length,
-        cr,
-        checksum,
-    });
-    let data = plain::data_nibbles(checksum, &payload);
+    let Settings { sf, low, kind } = *settings;
+    let head = plain::head_nibbles(kind, payload.len());
+    let data = plain::data_nibbles(kind.checksum(), &payload);
     let foreign = random.flag();
     let mut filler = || if foreign { random.byte() } else { 0 };
-    let mut symbols = plain::frame(settings, head, &data, &mut filler);
+    let mut symbols = plain::frame(settings, &head, &data, &mut filler);
 
     let mut hurts = Vec::new();
     let mut unread = head.len() + data.len();
@@ -80,7 +70,7 @@ pub fn frame(settings: &Settings, payload: Vec<u8>, ways: &[Way], random: &mut R
         unread -= wrong.len();
         hurts
             .extend((0..block.width()).map(|j| wrong.iter().map(|bits| bits >> j & 1).sum::<u8>()));
-        block = Block::later(sf, low, cr);
+        block = Block::later(sf, low, kind.cr());
     }
 
     if random.once_in(3) {
@@ -95,8 +85,8 @@ pub fn frame(settings: &Settings, payload: Vec<u8>, ways: &[Way], random: &mut R
     let frame = Frame {
         sf,
         low,
+        expected: kind.expected(),
         symbols,
-        length,
     };
     Hurt {
         frame,

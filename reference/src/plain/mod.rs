@@ -7,11 +7,10 @@ pub mod codeword;
 pub mod day;
 pub mod header;
 
-use crate::types::{refuse, Header, Received, Refusal, Settings};
+use crate::types::{refuse, Expected, Header, Kind, Received, Refusal, Settings};
 use crate::MOST_BYTES;
 use block::Block;
 use codeword::Taken;
-use std::ops::Range;
 
 /// Codewords of the header, at the front of block 0.
 const HEADER_CODEWORDS: usize = 5;
@@ -24,14 +23,10 @@ pub fn code(settings: &Settings, payload: &[u8], out: &mut [u16]) -> Result<usiz
     if out.len() < needed {
         return refuse(4, needed);
     }
-    let header = Header {
-        length: payload.len(),
-        cr: settings.cr,
-        checksum: settings.checksum,
-    };
-    let data = data_nibbles(settings.checksum, payload);
+    let head = head_nibbles(settings.kind, payload.len());
+    let data = data_nibbles(settings.kind.checksum(), payload);
     // Nibble 0 has codeword 0 at every rate.
-    let symbols = frame(settings, header::nibbles(&header), &data, &mut || 0);
+    let symbols = frame(settings, &head, &data, &mut || 0);
     out[..needed].copy_from_slice(&symbols);
     Ok(needed)
 }
@@ -41,15 +36,16 @@ pub fn code(settings: &Settings, payload: &[u8], out: &mut [u16]) -> Result<usiz
 pub fn read(
     sf: u8,
     low: bool,
+    expected: Expected,
     symbols: &[u16],
     out: &mut [u8],
     hurts: &mut [u8],
 ) -> Result<Received, Refusal> {
-    let FirstBlock {
+    let Opened {
         header,
+        codewords,
         mut hurt,
-        data_words: mut words,
-    } = first_block(sf, symbols)?;
+    } = opened(sf, expected, symbols)?;
     let Header {
         length,
         cr,
@@ -58,33 +54,29 @@ pub fn read(
     if out.len() < length {
         return refuse(4, length);
     }
-    let needed = symbols_needed(
-        &Settings {
-            sf,
-            low,
-            cr,
-            checksum,
-        },
-        length,
-    );
+    let needed = symbols_needed(sf, low, codewords, &header);
     if hurts.len() < needed {
         return refuse(4, needed);
     }
     if symbols.len() < needed {
         return refuse(5, needed);
     }
-    check_range(sf, symbols, FIRST_SYMBOLS..needed)?;
+    let symbols = &symbols[..needed];
+    // A header's symbols were found in range before, and are again.
+    check_range(sf, symbols)?;
 
-    let later = Block::later(sf, low, cr);
-    for start in (FIRST_SYMBOLS..needed).step_by(later.width()) {
-        words.extend(words_at(start, &later, symbols));
-    }
-    let mut nibbles = Vec::new();
+    let words = words(sf, low, cr, symbols);
     // Stops before the fillers, which may be anything.
-    for (i, word) in words.iter().take(data_count(checksum, length)).enumerate() {
+    let data_words = words
+        .iter()
+        .enumerate()
+        .skip(codewords)
+        .take(data_count(checksum, length));
+    let mut nibbles = Vec::new();
+    for (place, word) in data_words {
         match word.read(&mut hurt) {
             Some(nibble) => nibbles.push(nibble),
-            None => return refuse(7, HEADER_CODEWORDS + i),
+            None => return refuse(7, place),
         }
     }
 
@@ -111,19 +103,21 @@ pub fn read(
 
 /// The header alone.
 pub fn head(sf: u8, symbols: &[u16]) -> Result<Header, Refusal> {
-    Ok(first_block(sf, symbols)?.header)
+    Ok(header_read(sf, symbols)?.header)
 }
 
 /// The number of symbols.
 pub fn count(settings: &Settings, length: usize) -> Result<usize, Refusal> {
-    check_sf(settings.sf)?;
-    if !(1..=4).contains(&settings.cr) {
-        return refuse(2, 0);
-    }
-    if length > MOST_BYTES {
-        return refuse(3, 0);
-    }
-    Ok(symbols_needed(settings, length))
+    let Settings { sf, low, kind } = *settings;
+    check_sf(sf)?;
+    check_cr(kind.cr())?;
+    check_length(length)?;
+    let codewords = match kind {
+        Kind::Explicit { .. } => HEADER_CODEWORDS,
+        Kind::Agreed { length: agreed, .. } if agreed != length => return refuse(3, 0),
+        Kind::Agreed { .. } => 0,
+    };
+    Ok(symbols_needed(sf, low, codewords, &said(kind, length)))
 }
 
 /// The time on air in microseconds.
@@ -141,23 +135,40 @@ pub fn airtime(
     Ok(quarters * (1 << settings.sf) * 250 / u64::from(khz))
 }
 
-/// The symbols of header nibbles and data nibbles, right or wrong, with the
-/// words of `filler` in the places left over.
+/// The symbols of the nibbles that stand before the data and of the data's, right
+/// or wrong, with the words of `filler` in the places left over.
 pub fn frame(
     settings: &Settings,
-    header: [u8; 5],
+    head: &[u8],
     data: &[u8],
     filler: &mut dyn FnMut() -> u8,
 ) -> Vec<u16> {
-    let first = Block::first(settings.sf);
-    let later = Block::later(settings.sf, settings.low, settings.cr);
-    let nibbles = [&header, data].concat();
+    let Settings { sf, low, kind } = *settings;
+    let (first, later) = (Block::first(sf), Block::later(sf, low, kind.cr()));
+    let nibbles = [head, data].concat();
     let (in_first, in_later) = nibbles.split_at(nibbles.len().min(first.n));
     let mut symbols = first.code(in_first, filler);
     for block_nibbles in in_later.chunks(later.n) {
         symbols.extend(later.code(block_nibbles, filler));
     }
     symbols
+}
+
+/// The nibbles that stand before the data: the header's, if there is one.
+pub fn head_nibbles(kind: Kind, length: usize) -> Vec<u8> {
+    match kind {
+        Kind::Explicit { .. } => header::nibbles(&said(kind, length)).to_vec(),
+        Kind::Agreed { .. } => Vec::new(),
+    }
+}
+
+/// What the header of a frame of so many bytes says, or would.
+fn said(kind: Kind, length: usize) -> Header {
+    Header {
+        length,
+        cr: kind.cr(),
+        checksum: kind.checksum(),
+    }
 }
 
 /// The data nibbles of a payload, whitened, with the checksum behind them.
@@ -190,6 +201,16 @@ impl Word {
     }
 }
 
+/// The words of a frame, block after block.
+fn words(sf: u8, low: bool, cr: u8, symbols: &[u16]) -> Vec<Word> {
+    let later = Block::later(sf, low, cr);
+    let mut words = words_at(0, &Block::first(sf), symbols);
+    for start in (FIRST_SYMBOLS..symbols.len()).step_by(later.width()) {
+        words.extend(words_at(start, &later, symbols));
+    }
+    words
+}
+
 /// The words of the block that starts with this symbol.
 fn words_at(start: usize, block: &Block, symbols: &[u16]) -> Vec<Word> {
     let cr = block.cr;
@@ -200,35 +221,58 @@ fn words_at(start: usize, block: &Block, symbols: &[u16]) -> Vec<Word> {
         .collect()
 }
 
-struct FirstBlock {
+/// What is known of a frame before its data are read.
+struct Opened {
     header: Header,
-    /// The symbol of each repaired bit of the header's codewords.
+    /// Codewords that stand before the data: the header's, if there is one.
+    codewords: usize,
+    /// The symbol of each bit that was repaired in them.
     hurt: Vec<usize>,
-    /// The block's words behind the header.
-    data_words: Vec<Word>,
 }
 
-fn first_block(sf: u8, symbols: &[u16]) -> Result<FirstBlock, Refusal> {
+fn opened(sf: u8, expected: Expected, symbols: &[u16]) -> Result<Opened, Refusal> {
+    match expected {
+        Expected::Explicit => header_read(sf, symbols),
+        Expected::Agreed {
+            length,
+            cr,
+            checksum,
+        } => {
+            check_sf(sf)?;
+            check_cr(cr)?;
+            check_length(length)?;
+            Ok(Opened {
+                header: Header {
+                    length,
+                    cr,
+                    checksum,
+                },
+                codewords: 0,
+                hurt: Vec::new(),
+            })
+        }
+    }
+}
+
+fn header_read(sf: u8, symbols: &[u16]) -> Result<Opened, Refusal> {
     check_sf(sf)?;
     if symbols.len() < FIRST_SYMBOLS {
         return refuse(5, FIRST_SYMBOLS);
     }
-    check_range(sf, symbols, 0..FIRST_SYMBOLS)?;
-    let mut words = words_at(0, &Block::first(sf), symbols);
-    let data_words = words.split_off(HEADER_CODEWORDS);
+    check_range(sf, &symbols[..FIRST_SYMBOLS])?;
+    let words = words_at(0, &Block::first(sf), symbols);
     let mut nibbles = [0; HEADER_CODEWORDS];
     let mut hurt = Vec::new();
-    for (i, word) in words.iter().enumerate() {
-        match word.read(&mut hurt) {
-            Some(nibble) => nibbles[i] = nibble,
+    for (i, nibble) in nibbles.iter_mut().enumerate() {
+        match words[i].read(&mut hurt) {
+            Some(read) => *nibble = read,
             None => return refuse(7, i),
         }
     }
-    let header = header::header(nibbles)?;
-    Ok(FirstBlock {
-        header,
+    Ok(Opened {
+        header: header::header(nibbles)?,
+        codewords: HEADER_CODEWORDS,
         hurt,
-        data_words,
     })
 }
 
@@ -240,22 +284,37 @@ fn check_sf(sf: u8) -> Result<(), Refusal> {
     }
 }
 
-fn check_range(sf: u8, symbols: &[u16], places: Range<usize>) -> Result<(), Refusal> {
-    for i in places {
-        if symbols[i] >= 1 << sf {
-            return refuse(6, i);
-        }
+fn check_cr(cr: u8) -> Result<(), Refusal> {
+    if (1..=4).contains(&cr) {
+        Ok(())
+    } else {
+        refuse(2, 0)
     }
-    Ok(())
+}
+
+fn check_length(length: usize) -> Result<(), Refusal> {
+    if length <= MOST_BYTES {
+        Ok(())
+    } else {
+        refuse(3, 0)
+    }
+}
+
+fn check_range(sf: u8, symbols: &[u16]) -> Result<(), Refusal> {
+    match symbols.iter().position(|&symbol| symbol >= 1 << sf) {
+        Some(place) => refuse(6, place),
+        None => Ok(()),
+    }
 }
 
 fn data_count(checksum: bool, length: usize) -> usize {
     2 * length + if checksum { 4 } else { 0 }
 }
 
-fn symbols_needed(settings: &Settings, length: usize) -> usize {
-    let in_first = Block::first(settings.sf).n - HEADER_CODEWORDS;
-    let later = Block::later(settings.sf, settings.low, settings.cr);
-    let remaining = data_count(settings.checksum, length).saturating_sub(in_first);
+/// With so many codewords before the data.
+fn symbols_needed(sf: u8, low: bool, codewords: usize, header: &Header) -> usize {
+    let in_first = Block::first(sf).n - codewords;
+    let later = Block::later(sf, low, header.cr);
+    let remaining = data_count(header.checksum, header.length).saturating_sub(in_first);
     FIRST_SYMBOLS + later.width() * remaining.div_ceil(later.n)
 }

@@ -1,7 +1,7 @@
 //! Times and tables.
 
 use reference::random::Random;
-use reference::types::{Code, Read, Settings};
+use reference::types::{Code, Kind, Read, Settings};
 use reference::{plain, product, tuned, MOST_BYTES, MOST_SYMBOLS};
 use std::hint::black_box;
 use std::time::{Duration, Instant};
@@ -63,8 +63,7 @@ impl Trial {
         let settings = Settings {
             sf,
             low: false,
-            cr,
-            checksum: true,
+            kind: Kind::Explicit { cr, checksum: true },
         };
         let payload = Random::new(length as u64).bytes(length);
         let mut symbols = vec![0; MOST_SYMBOLS];
@@ -79,7 +78,8 @@ impl Trial {
 
     /// Seconds a frame.
     fn seconds(&self, implementation: &Implementation, operation: Operation) -> f64 {
-        let Settings { sf, low, .. } = self.settings;
+        let Settings { sf, low, kind } = self.settings;
+        let expected = kind.expected();
         let mut symbols = [0; MOST_SYMBOLS];
         let (mut bytes, mut hurts) = ([0; MOST_BYTES], [0; MOST_SYMBOLS]);
         match operation {
@@ -95,6 +95,7 @@ impl Trial {
                 let answer = (implementation.read)(
                     black_box(sf),
                     black_box(low),
+                    black_box(expected),
                     black_box(&self.symbols),
                     black_box(&mut bytes),
                     black_box(&mut hurts),

@@ -3,7 +3,7 @@
 use reference::cases::{self, hurts};
 use reference::plain;
 use reference::random::Random;
-use reference::types::Settings;
+use reference::types::{Expected, Kind, Settings};
 use reference::{MOST_BYTES, MOST_SYMBOLS};
 
 #[derive(Clone, Copy, Debug)]
@@ -19,6 +19,7 @@ pub enum Operation {
 #[derive(Debug)]
 pub struct Case {
     pub operation: Operation,
+    /// The sender's, or what a reader takes for the sender's.
     pub settings: Settings,
     /// The flags as bytes: 0 is off, any other byte is on.
     pub low: u8,
@@ -39,34 +40,36 @@ impl Case {
     pub fn new(random: &mut Random) -> Case {
         use Operation::*;
         let operation = random.pick(&[Code, Code, Read, Read, Read, Read, Head, Count, Airtime]);
+        let payload = payload(operation, random);
+        let length = match operation {
+            Count | Airtime => length(random),
+            _ => payload.len(),
+        };
         let mut settings = cases::settings(random.below(cases::SETTINGS));
-        let mut payload = Vec::new();
+        // Head takes frames with a header only.
+        if !matches!(operation, Head) && random.flag() {
+            settings = settings.without_header(length);
+        }
         let mut symbols = Vec::new();
         let (mut out_len, mut hurts_len) = (0, 0);
         match operation {
             Code => {
-                payload = cases::payload(random);
-                if random.once_in(16) {
-                    let length = MOST_BYTES - 2 + random.below(8);
-                    payload = random.bytes(length);
-                }
-                let needed = plain::count(&settings, payload.len()).unwrap_or(MOST_SYMBOLS);
+                let needed = plain::count(&settings, length).unwrap_or(MOST_SYMBOLS);
                 out_len = cells_around(needed, random);
             }
             Read | Head => {
-                let frame = frame(&settings, random);
-                (settings.sf, settings.low) = (frame.sf, frame.low);
+                let frame = frame(&settings, &payload, random);
+                let length = read_as(&frame, &mut settings).unwrap_or(length);
                 symbols = frame.symbols;
-                // The frame may be cut, and followed by others.
-                let needed = plain::count(&settings, frame.length).unwrap();
                 if random.once_in(16) {
                     symbols.truncate(random.below(12));
                 }
-                out_len = cells_around(frame.length, random);
+                out_len = cells_around(length, random);
                 hurts_len = if random.flag() {
                     MOST_SYMBOLS
                 } else {
-                    cells_around(needed, random)
+                    // The frame may be cut, and followed by others.
+                    cells_around(plain::count(&settings, length).unwrap(), random)
                 };
             }
             Count | Airtime => {}
@@ -76,8 +79,8 @@ impl Case {
             operation,
             settings,
             low: flag_byte(settings.low, random),
-            checksum: flag_byte(settings.checksum, random),
-            length: length(random),
+            checksum: flag_byte(settings.kind.checksum(), random),
+            length,
             khz: khz(random),
             preamble: if random.flag() {
                 random.below(20) as u16
@@ -97,18 +100,46 @@ impl Case {
     }
 }
 
-/// A frame of any kind, every third one hurt so that it can be read.
-fn frame(settings: &Settings, random: &mut Random) -> cases::Frame {
-    if random.once_in(3) {
-        let payload = cases::payload(random);
-        let ways = random.pick(&hurts::WAYS);
-        return hurts::frame(settings, payload, ways, random).frame;
+/// A payload; to be coded, at times one about as long as can be, or longer.
+fn payload(operation: Operation, random: &mut Random) -> Vec<u8> {
+    if matches!(operation, Operation::Code) && random.once_in(16) {
+        let length = MOST_BYTES - 2 + random.below(8);
+        return random.bytes(length);
     }
-    let kind = random.pick(&cases::KINDS);
-    cases::frame(kind, settings, random)
+    cases::payload(random)
 }
 
-/// Takes SF and CR out of range at times.
+/// A frame with any fate, every third one hurt so that it can be read.
+fn frame(settings: &Settings, payload: &[u8], random: &mut Random) -> cases::Frame {
+    if random.once_in(3) {
+        let ways = random.pick(&hurts::WAYS);
+        return hurts::frame(settings, payload.to_vec(), ways, random).frame;
+    }
+    cases::any_frame(settings, payload, random)
+}
+
+/// Makes the sender's settings the reader's. Answers the length that the reader
+/// expects, if any.
+fn read_as(frame: &cases::Frame, settings: &mut Settings) -> Option<usize> {
+    (settings.sf, settings.low) = (frame.sf, frame.low);
+    let Expected::Agreed {
+        length,
+        cr,
+        checksum,
+    } = frame.expected
+    else {
+        return None;
+    };
+    settings.kind = Kind::Agreed {
+        length,
+        cr,
+        checksum,
+    };
+    Some(length)
+}
+
+/// Takes SF and CR out of range at times, and the agreed length, which may stay in
+/// range and be another.
 fn spoil(settings: &mut Settings, random: &mut Random) {
     if random.once_in(16) {
         settings.sf = if random.flag() {
@@ -117,12 +148,24 @@ fn spoil(settings: &mut Settings, random: &mut Random) {
             random.pick(&[0, 6, 13, 255])
         };
     }
+    let (Kind::Explicit { cr, .. } | Kind::Agreed { cr, .. }) = &mut settings.kind;
     if random.once_in(16) {
-        settings.cr = if random.flag() {
+        *cr = if random.flag() {
             random.byte()
         } else {
             random.pick(&[0, 5, 9, 255])
         };
+    }
+    if let Kind::Agreed { length: agreed, .. } = &mut settings.kind {
+        if random.once_in(8) {
+            *agreed = match random.below(4) {
+                0 => agreed.wrapping_add(1),
+                1 => agreed.wrapping_sub(1),
+                // Would come out right if cut to a byte or to 16 bits.
+                2 => agreed.wrapping_add(random.pick(&[256, 65_536, 1 << 32])),
+                _ => length(random),
+            };
+        }
     }
 }
 

@@ -1,5 +1,6 @@
 //! Holds the product's library against `plain`: `compare [SEED [COUNT]]`. COUNT
-//! inputs go to the five operations, half as many to the day's file.
+//! inputs go to the five operations, for frames with and without a header, half as
+//! many to the day's file.
 
 mod case;
 mod cells;

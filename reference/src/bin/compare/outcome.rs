@@ -4,7 +4,7 @@ use crate::case::{Case, Operation};
 use crate::cells::{lent, pointer, pointer_mut, put, with_margins};
 use chyvandra::ffi;
 use reference::random::Random;
-use reference::types::{Code, Header, Read, Refusal, Settings};
+use reference::types::{Code, Header, Kind, Read, Refusal, Settings};
 use reference::{plain, product};
 
 /// The four arrays an operation may write to, margins included.
@@ -96,6 +96,7 @@ fn told(operations: &Operations, case: &Case, mut cells: Cells) -> (u8, Cells) {
         Operation::Read => (operations.read)(
             settings.sf,
             settings.low,
+            settings.kind.expected(),
             &case.symbols,
             lent(&mut cells.bytes),
             lent(&mut cells.hurts),
@@ -140,7 +141,12 @@ fn bare(case: &Case, mut cells: Cells) -> (u8, Cells) {
         ref symbols,
         ..
     } = *case;
-    let Settings { sf, cr, .. } = case.settings;
+    let Settings { sf, kind, .. } = case.settings;
+    let cr = kind.cr();
+    let agreed = match kind {
+        Kind::Explicit { .. } => None,
+        Kind::Agreed { length, .. } => Some(length),
+    };
     let out = lent(&mut cells.symbols);
     let (out, out_len) = (pointer_mut(out), out.len());
     let bytes = lent(&mut cells.bytes);
@@ -154,8 +160,8 @@ fn bare(case: &Case, mut cells: Cells) -> (u8, Cells) {
     // SAFETY: each pointer and length is those of one live slice, or null and 0,
     // and the slices don't overlap.
     let returned = unsafe {
-        match case.operation {
-            Operation::Code => ffi::lora_code(
+        match (case.operation, agreed) {
+            (Operation::Code, None) => ffi::lora_code(
                 sf,
                 low,
                 cr,
@@ -167,7 +173,20 @@ fn bare(case: &Case, mut cells: Cells) -> (u8, Cells) {
                 answer,
                 answer_len,
             ),
-            Operation::Read => ffi::lora_read(
+            (Operation::Code, Some(agreed)) => ffi::lora_code_agreed(
+                sf,
+                low,
+                agreed,
+                cr,
+                checksum,
+                payload,
+                payload_len,
+                out,
+                out_len,
+                answer,
+                answer_len,
+            ),
+            (Operation::Read, None) => ffi::lora_read(
                 sf,
                 low,
                 symbols,
@@ -179,10 +198,33 @@ fn bare(case: &Case, mut cells: Cells) -> (u8, Cells) {
                 answer,
                 answer_len,
             ),
-            Operation::Head => ffi::lora_head(sf, symbols, symbols_len, answer, answer_len),
-            Operation::Count => ffi::lora_count(sf, low, cr, checksum, length, answer, answer_len),
-            Operation::Airtime => ffi::lora_airtime(
+            (Operation::Read, Some(agreed)) => ffi::lora_read_agreed(
+                sf,
+                low,
+                agreed,
+                cr,
+                checksum,
+                symbols,
+                symbols_len,
+                bytes,
+                bytes_len,
+                hurts,
+                hurts_len,
+                answer,
+                answer_len,
+            ),
+            (Operation::Head, _) => ffi::lora_head(sf, symbols, symbols_len, answer, answer_len),
+            (Operation::Count, None) => {
+                ffi::lora_count(sf, low, cr, checksum, length, answer, answer_len)
+            }
+            (Operation::Count, Some(agreed)) => {
+                ffi::lora_count_agreed(sf, low, agreed, cr, checksum, length, answer, answer_len)
+            }
+            (Operation::Airtime, None) => ffi::lora_airtime(
                 sf, low, cr, checksum, length, khz, preamble, answer, answer_len,
+            ),
+            (Operation::Airtime, Some(agreed)) => ffi::lora_airtime_agreed(
+                sf, low, agreed, cr, checksum, length, khz, preamble, answer, answer_len,
             ),
         }
     };

@@ -1,7 +1,9 @@
 //! How sure an accepted frame is where the proved bounds end: frames with more
-//! symbols changed than the bounds allow, and frames read with settings that are
-//! not the sender's, through the product's library: `misread [SEED [COUNT]]`.
+//! symbols changed than the bounds allow, and frames read with settings or agreed
+//! values that are not the sender's, through the product's library:
+//! `misread [SEED [COUNT]]`.
 
+mod agreed;
 mod sent;
 mod settings;
 mod spoiled;
@@ -23,6 +25,7 @@ fn main() -> ExitCode {
     let mut random = Random::new(seed);
     spoiled::print_tables(count, &mut random);
     settings::print_table(count, &mut random);
+    agreed::print_table(count, &mut random);
     ExitCode::SUCCESS
 }
 

@@ -1,7 +1,8 @@
 //! A frame that was sent, and what became of it.
 
+use reference::cases::any_symbol;
 use reference::random::Random;
-use reference::types::Settings;
+use reference::types::{Expected, Settings};
 use reference::{product, MOST_BYTES, MOST_SYMBOLS};
 use std::fmt;
 
@@ -21,10 +22,16 @@ impl Sent {
         Sent { payload, symbols }
     }
 
+    /// The symbols, and so many random ones behind them.
+    pub fn followed(&self, further: usize, sf: u8, random: &mut Random) -> Vec<u16> {
+        let behind = (0..further).map(|_| any_symbol(sf, random));
+        self.symbols.iter().copied().chain(behind).collect()
+    }
+
     /// What comes of reading these symbols for the sent ones.
-    pub fn read_as(&self, sf: u8, low: bool, symbols: &[u16]) -> Outcome {
+    pub fn read_as(&self, sf: u8, low: bool, expected: Expected, symbols: &[u16]) -> Outcome {
         let (mut out, mut hurts) = ([0; MOST_BYTES], [0; MOST_SYMBOLS]);
-        match product::read(sf, low, symbols, &mut out, &mut hurts) {
+        match product::read(sf, low, expected, symbols, &mut out, &mut hurts) {
             Err(_) => Outcome::Refused,
             Ok(received) if out[..received.header.length] == self.payload => Outcome::Right,
             Ok(received) => Outcome::Wrong {

@@ -1,15 +1,16 @@
 //! Unharmed frames that are read with a setting that is not the sender's.
 
 use crate::sent::{rate_cells, Sent, Tally};
-use reference::cases::{self, any_symbol};
+use reference::cases;
 use reference::random::Random;
-use reference::types::Settings;
+use reference::types::{Expected, Kind, Settings};
 
-/// The most bytes of a payload. Their number is in the header, so it has to vary.
-const MOST: usize = 32;
+/// The most bytes of a payload. Their number is in the header, or agreed on, so it
+/// has to vary.
+pub const MOST: usize = 32;
 
 /// Symbols behind the frame, as a station hands over that can't tell its end.
-const FURTHER: usize = 40;
+pub const FURTHER: usize = 40;
 
 /// What the reader has wrong.
 #[derive(Clone, Copy)]
@@ -52,18 +53,16 @@ fn tally(
     let mut tally = Tally::default();
     for _ in 0..count {
         let settings = Settings {
-            cr,
-            checksum,
+            kind: Kind::Explicit { cr, checksum },
             ..cases::settings(random.below(cases::SETTINGS))
         };
         let sent = Sent::new(&settings, 1 + random.below(MOST), random);
-        let mut symbols = sent.symbols.clone();
-        symbols.extend((0..further).map(|_| any_symbol(settings.sf, random)));
+        let symbols = sent.followed(further, settings.sf, random);
         let (sf, low) = match mistake {
             Mistake::LowRate => (settings.sf, !settings.low),
             Mistake::Spreading => (other_sf(settings.sf, random), settings.low),
         };
-        tally.add(sent.read_as(sf, low, &symbols));
+        tally.add(sent.read_as(sf, low, Expected::Explicit, &symbols));
     }
     tally
 }

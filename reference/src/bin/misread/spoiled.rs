@@ -3,7 +3,7 @@
 use crate::sent::{rate_cells, Sent, Tally};
 use reference::cases;
 use reference::random::Random;
-use reference::types::Settings;
+use reference::types::{Kind, Settings};
 
 /// The payload's bytes: as many as a gate's message has.
 const BYTES: usize = 6;
@@ -59,8 +59,7 @@ fn print_table(place: Where, count: usize, random: &mut Random) {
                     let settings = Settings {
                         sf,
                         low: false,
-                        cr,
-                        checksum,
+                        kind: Kind::Explicit { cr, checksum },
                     };
                     tally(&settings, place, changed, count, random)
                 });
@@ -93,10 +92,12 @@ fn tally(
     for _ in 0..count {
         let sent = Sent::new(settings, BYTES, random);
         let mut symbols = sent.symbols.clone();
-        for block in cases::blocks(&mut symbols, settings.cr).skip(place.unspoiled_blocks()) {
+        for block in cases::blocks(&mut symbols, settings.kind.cr()).skip(place.unspoiled_blocks())
+        {
             spoil(block, changed, settings.sf, random);
         }
-        tally.add(sent.read_as(settings.sf, settings.low, &symbols));
+        let Settings { sf, low, kind } = *settings;
+        tally.add(sent.read_as(sf, low, kind.expected(), &symbols));
     }
     tally
 }

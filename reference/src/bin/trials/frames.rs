@@ -1,10 +1,10 @@
 //! Lines for the reading program: frames clean, damaged and badly written.
 
 use crate::spelling::{
-    blank, intruded, plainly, spelled, Word, BAD_FLAGS, BAD_NUMBERS, BAD_SPREADING,
+    blank, frame_words, intruded, plainly, spelled, Word, BAD_FLAGS, BAD_NUMBERS, BAD_SPREADING,
 };
 use crate::tally::Outcome::{self, Refused, Repaired};
-use reference::cases::{self, Kind};
+use reference::cases::{self, Fate};
 use reference::random::Random;
 
 /// The refusals that the reading program can give, and repairs. 4 can't occur,
@@ -25,15 +25,14 @@ pub const WANTED: [Outcome; 10] = [
 /// The text of one line.
 pub fn text(line: usize, last: bool, random: &mut Random) -> Vec<u8> {
     let settings = cases::settings(line % cases::SETTINGS);
-    let kind = if last {
-        Kind::Clean
+    let fate = if last {
+        Fate::Clean
     } else {
-        random.pick(&cases::KINDS)
+        random.pick(&cases::FATES)
     };
-    let frame = cases::frame(kind, &settings, random);
-    let mut numbers = vec![u16::from(frame.sf), u16::from(frame.low)];
-    numbers.extend(frame.symbols);
-    let mut words: Vec<Word> = numbers.into_iter().map(Word::Number).collect();
+    let payload = cases::payload(random);
+    let frame = cases::frame(fate, &settings, &payload, random);
+    let mut words = frame_words(&frame);
     if last {
         return spelled(&words, random);
     }
@@ -42,26 +41,28 @@ pub fn text(line: usize, last: bool, random: &mut Random) -> Vec<u8> {
             words[0] = Word::Number(random.pick(&BAD_SPREADING));
             spelled(&words, random)
         }
-        1..=6 => bad_text(&words, random),
+        1..=6 => bad_text(&words, 0, random),
         _ => spelled(&words, random),
     }
 }
 
-/// A text that can't be taken, made from one that can.
-fn bad_text(good: &[Word], random: &mut Random) -> Vec<u8> {
+/// A text that can't be taken, made from one that can, in which the SF has this
+/// index. The low-rate flag and the symbols are behind it.
+pub fn bad_text(good: &[Word], sf: usize, random: &mut Random) -> Vec<u8> {
     let mut words = plainly(good);
+    let low = sf + 1;
     match random.below(16) {
         0 => words.clear(),
         1 => return blank(random).into_bytes(),
-        2 => words.truncate(1),
-        3 => words[1] = random.pick(&BAD_FLAGS).to_string(),
+        2 => words.truncate(low),
+        3 => words[low] = random.pick(&BAD_FLAGS).to_string(),
         // The text is judged before its meaning.
         4 => {
-            words[0] = "6".to_string();
-            words[1] = "2".to_string();
+            words[sf] = "6".to_string();
+            words[low] = "2".to_string();
         }
-        5 => words.resize(2 + 833, "0".to_string()),
-        6 => words.resize(2 + 834 + random.below(600), "1".to_string()),
+        5 => words.resize(low + 1 + 833, "0".to_string()),
+        6 => words.resize(low + 1 + 834 + random.below(600), "1".to_string()),
         7 => words.push("70000".to_string()),
         8 | 9 => {
             let place = random.below(words.len());

@@ -2,12 +2,15 @@
 //!
 //! `trials frames|hurts|wishes SEED LINES INPUT OUTPUT`: lines for the reading
 //! program, the program that tells which symbols were hurt, or the coding program.
+//! `trials agreed|agreed-hurts|agreed-wishes SEED LINES INPUT OUTPUT`: the same, most
+//! of them for frames without a header.
 //! `trials keep SEED LINES INPUT OUTPUT ERRORS`: captures for the program that
 //! keeps a day, its file and its standard error.
 //! `trials show INPUT OUTPUT`: a file for the program that shows a day.
 //! `trials files SEED INPUT OUTPUT`: many files, each after its length in four
 //! bytes, low first.
 
+mod agreed;
 mod files;
 mod frames;
 mod hurts;
@@ -28,18 +31,6 @@ fn main() -> ExitCode {
     let words: Vec<String> = env::args().skip(1).collect();
     let words: Vec<&str> = words.iter().map(String::as_str).collect();
     let missing = match words[..] {
-        [name @ ("frames" | "hurts" | "wishes"), seed, lines, input, output] => {
-            let (Ok(seed), Ok(lines)) = (seed.parse(), lines.parse()) else {
-                return usage();
-            };
-            println!("{name}, seed {seed}, lines {lines}");
-            let trial = match name {
-                "frames" => FRAMES,
-                "hurts" => HURTS,
-                _ => WISHES,
-            };
-            answered_lines(&trial, Random::new(seed), lines, input, output)
-        }
         ["keep", seed, lines, input, output, errors] => {
             let (Ok(seed), Ok(lines)) = (seed.parse(), lines.parse()) else {
                 return usage();
@@ -65,6 +56,14 @@ fn main() -> ExitCode {
             files.print();
             files.missing()
         }
+        [name, seed, lines, input, output] => {
+            let (Some(trial), Ok(seed), Ok(lines)) = (trial(name), seed.parse(), lines.parse())
+            else {
+                return usage();
+            };
+            println!("{name}, seed {seed}, lines {lines}");
+            answered_lines(&trial, Random::new(seed), lines, input, output)
+        }
         _ => return usage(),
     };
     if missing.is_empty() {
@@ -80,30 +79,62 @@ struct Trial {
     /// a good one, so that the file does not end in an empty line.
     text: fn(line: usize, last: bool, &mut Random) -> Vec<u8>,
     answer_line: fn(&[u8]) -> Vec<u8>,
-    outcomes: fn(&[u8]) -> Vec<Outcome>,
-    wanted: &'static [Outcome],
+    outcomes: fn(line: &[u8], answer: &[u8]) -> Vec<Outcome>,
+    wanted: &'static [&'static [Outcome]],
 }
 
-const FRAMES: Trial = Trial {
-    text: frames::text,
-    answer_line: text::answer_line,
-    outcomes: tally::outcomes,
-    wanted: &frames::WANTED,
-};
-
-const HURTS: Trial = Trial {
-    text: hurts::text,
-    answer_line: hurt::answer_line,
-    outcomes: hurts::outcomes,
-    wanted: &hurts::WANTED,
-};
-
-const WISHES: Trial = Trial {
-    text: wishes::text,
-    answer_line: wish::answer_line,
-    outcomes: tally::outcomes,
-    wanted: &wishes::WANTED,
-};
+fn trial(name: &str) -> Option<Trial> {
+    Some(match name {
+        "frames" => Trial {
+            text: frames::text,
+            answer_line: text::capture_line,
+            outcomes: tally::outcomes,
+            wanted: &[&frames::WANTED],
+        },
+        "hurts" => Trial {
+            text: hurts::text,
+            answer_line: hurt::answer_line,
+            outcomes: hurts::outcomes,
+            wanted: &[&frames::WANTED, &hurts::WANTED],
+        },
+        "wishes" => Trial {
+            text: wishes::text,
+            answer_line: wish::answer_line,
+            outcomes: tally::outcomes,
+            wanted: &[&wishes::WANTED],
+        },
+        "agreed" => Trial {
+            text: agreed::text,
+            answer_line: text::capture_line,
+            outcomes: agreed::outcomes,
+            wanted: &[
+                &agreed::REFUSALS,
+                &agreed::VALUES,
+                &agreed::HURT,
+                &[agreed::WITH_HEADER],
+            ],
+        },
+        "agreed-hurts" => Trial {
+            text: hurts::agreed_text,
+            answer_line: hurt::answer_line,
+            outcomes: hurts::agreed_outcomes,
+            wanted: &[
+                &agreed::REFUSALS,
+                &agreed::VALUES,
+                &agreed::HURT,
+                &hurts::WANTED,
+                &[agreed::WITH_HEADER],
+            ],
+        },
+        "agreed-wishes" => Trial {
+            text: wishes::agreed_text,
+            answer_line: wish::answer_line,
+            outcomes: wishes::agreed_outcomes,
+            wanted: &[&wishes::WANTED, &agreed::VALUES, &[agreed::WITH_HEADER]],
+        },
+        _ => return None,
+    })
+}
 
 /// Lines and their answers; answers what never occurred.
 fn answered_lines(
@@ -119,7 +150,7 @@ fn answered_lines(
         let text = (trial.text)(line, line + 1 == lines, &mut random);
         assert!(!text.contains(&b'\n'), "line {line} would be two");
         let answer = (trial.answer_line)(&text);
-        tally.add(&(trial.outcomes)(&answer));
+        tally.add(&(trial.outcomes)(&text, &answer));
         texts.extend(text);
         texts.push(b'\n');
         answers.extend(answer);
@@ -130,8 +161,8 @@ fn answered_lines(
     tally.missing(trial.wanted)
 }
 
-/// Captures, the day's file and the lines on standard error; answers what never
-/// occurred.
+/// Captures of both kinds, the day's file and the lines on standard error; answers
+/// what never occurred.
 fn kept_day(
     mut random: Random,
     lines: usize,
@@ -144,8 +175,11 @@ fn kept_day(
     for line in 0..lines {
         // The settings come in no order, so that theirs in the file shows.
         let settings = random.below(cases::SETTINGS);
-        let text = frames::text(settings, line + 1 == lines, &mut random);
-        tally.add(&tally::outcomes(&text::answer_line(&text)));
+        let capture = random.pick(&[frames::text, agreed::capture]);
+        let text = capture(settings, line + 1 == lines, &mut random);
+        let outcomes = tally::outcomes(&text, &text::capture_line(&text));
+        tally.add(&agreed::values(&text, outcomes[0]));
+        tally.add(&outcomes);
         texts.push(text);
     }
     // The last line has no end.
@@ -157,7 +191,7 @@ fn kept_day(
     write(errors, told.as_bytes());
     tally.print();
     println!("{}", told.lines().last().unwrap());
-    let mut missing = tally.missing(&frames::WANTED);
+    let mut missing = tally.missing(&[&frames::WANTED, &agreed::REFUSALS, &agreed::VALUES]);
     let settings = day::judge(&file).expect("a good file").settings;
     for setting in all_settings() {
         if !settings.contains(&setting) {
@@ -175,6 +209,7 @@ fn write(path: &str, content: &[u8]) {
 
 fn usage() -> ExitCode {
     eprintln!("usage: trials frames|hurts|wishes SEED LINES INPUT OUTPUT");
+    eprintln!("       trials agreed|agreed-hurts|agreed-wishes SEED LINES INPUT OUTPUT");
     eprintln!("       trials keep SEED LINES INPUT OUTPUT ERRORS");
     eprintln!("       trials show INPUT OUTPUT");
     eprintln!("       trials files SEED INPUT OUTPUT");

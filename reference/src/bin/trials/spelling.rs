@@ -1,6 +1,8 @@
 //! Words put together to a line, well or badly.
 
+use reference::cases::Frame;
 use reference::random::Random;
+use reference::types::Expected;
 
 /// What may stand in no text: letters and signs, the neighbours of the digits,
 /// of 32 and of 10, the same bytes with the top bit set, and UTF-8.
@@ -51,6 +53,12 @@ pub const BAD_NUMBERS: [&str; 9] = [
 /// Spreading factors out of range; some would come out right if cut to a byte.
 pub const BAD_SPREADING: [u16; 12] = [0, 1, 5, 6, 13, 14, 255, 256, 263, 268, 32_775, 65_535];
 
+/// Code rates out of range; some would come out right if cut to a byte.
+pub const BAD_RATES: [u16; 12] = [0, 5, 6, 8, 9, 255, 256, 257, 258, 260, 32_769, 65_535];
+
+/// Lengths out of range; most would be in range if cut to a byte.
+pub const BAD_LENGTHS: [u16; 9] = [256, 257, 258, 300, 511, 512, 32_768, 65_534, 65_535];
+
 /// Numbers that are no flag; some would come out right if cut to a byte or bit.
 pub const BAD_FLAGS: [&str; 7] = ["2", "3", "10", "256", "257", "65535", "00002"];
 
@@ -80,6 +88,53 @@ impl Word {
         };
         format!("{:0>width$}", self.plain())
     }
+}
+
+/// Index of the SF in the words of a frame without a header; LENGTH, CR and FLAG
+/// stand before it.
+pub const AGREED_SF: usize = 3;
+
+/// The words of a frame's text; without a header, those behind the mark.
+pub fn frame_words(frame: &Frame) -> Vec<Word> {
+    let mut numbers = match frame.expected {
+        Expected::Explicit => Vec::new(),
+        Expected::Agreed {
+            length,
+            cr,
+            checksum,
+        } => vec![length as u16, cr.into(), checksum.into()],
+    };
+    numbers.extend([u16::from(frame.sf), u16::from(frame.low)]);
+    numbers.extend(&frame.symbols);
+    numbers.into_iter().map(Word::Number).collect()
+}
+
+/// A text that can be taken.
+pub fn frame_text(frame: &Frame, random: &mut Random) -> Vec<u8> {
+    let text = spelled(&frame_words(frame), random);
+    match frame.expected {
+        Expected::Explicit => text,
+        Expected::Agreed { .. } => marked(&text, random),
+    }
+}
+
+/// The text with the mark before it, and spaces around that or none.
+pub fn marked(text: &[u8], random: &mut Random) -> Vec<u8> {
+    let (before, behind) = match random.below(100) {
+        0 => (MANY_SPACES, random.below(2)),
+        1..=10 => (0, 0),
+        11..=20 => (1 + random.below(4), random.below(4)),
+        _ => (0, 1),
+    };
+    let mark = " ".repeat(before) + "=" + &" ".repeat(behind);
+    [mark.as_bytes(), text].concat()
+}
+
+/// The text with one mark more, anywhere.
+pub fn marked_again(text: &[u8], random: &mut Random) -> Vec<u8> {
+    let mut text = marked(text, random);
+    text.insert(random.below(text.len() + 1), b'=');
+    text
 }
 
 /// The words as a text that can be taken, plainly or with spaces and zeros to

@@ -9,8 +9,8 @@ pub enum Outcome {
     Accepted,
     /// Read, with repairs.
     Repaired,
-    /// Where the repairs were.
-    Hurt(&'static str),
+    /// What else a line tells.
+    Told(&'static str),
 }
 
 impl fmt::Display for Outcome {
@@ -19,7 +19,7 @@ impl fmt::Display for Outcome {
             Outcome::Refused(number) => write!(f, "refusal {number}"),
             Outcome::Accepted => write!(f, "acceptance"),
             Outcome::Repaired => write!(f, "acceptance with repairs"),
-            Outcome::Hurt(what) => write!(f, "{what}"),
+            Outcome::Told(what) => write!(f, "{what}"),
         }
     }
 }
@@ -40,9 +40,11 @@ impl Tally {
         }
     }
 
-    pub fn missing(&self, wanted: &[Outcome]) -> Vec<String> {
+    pub fn missing(&self, wanted: &[&[Outcome]]) -> Vec<String> {
         wanted
             .iter()
+            .copied()
+            .flatten()
             .filter(|outcome| !self.0.contains_key(outcome))
             .map(Outcome::to_string)
             .collect()
@@ -50,7 +52,7 @@ impl Tally {
 }
 
 /// What an answer's line of the reading or the coding program says.
-pub fn outcomes(answer: &[u8]) -> Vec<Outcome> {
+pub fn outcomes(_line: &[u8], answer: &[u8]) -> Vec<Outcome> {
     let line = String::from_utf8_lossy(answer);
     let fields: Vec<&str> = line.split_ascii_whitespace().collect();
     vec![match fields[..] {

@@ -2,9 +2,11 @@
 //! badly written.
 
 use crate::spelling::{
-    blank, intruded, plainly, spelled, Word, BAD_FLAGS, BAD_NUMBERS, BAD_SPREADING, MANY_SPACES,
+    blank, intruded, marked, marked_again, plainly, spelled, Word, BAD_FLAGS, BAD_LENGTHS,
+    BAD_NUMBERS, BAD_RATES, BAD_SPREADING, MANY_SPACES,
 };
 use crate::tally::Outcome::{self, Accepted, Refused};
+use crate::{agreed, tally};
 use reference::random::Random;
 use reference::types::Settings;
 use reference::words::hex;
@@ -13,9 +15,6 @@ use reference::{cases, MOST_BYTES};
 /// The refusals that the coding program can give. 4 can't occur, since the
 /// program's list is large enough.
 pub const WANTED: [Outcome; 5] = [Refused(1), Refused(2), Refused(3), Refused(14), Accepted];
-
-/// Code rates out of range; some would come out right if cut to a byte.
-const BAD_RATES: [u16; 12] = [0, 5, 6, 8, 9, 255, 256, 257, 258, 260, 32_769, 65_535];
 
 /// Lengths around the most bytes, and some that would be short if cut to a byte.
 const EDGES: [usize; 12] = [0, 1, 2, 253, 254, 255, 256, 257, 261, 511, 512, 600];
@@ -37,16 +36,64 @@ const FURTHER: [&str; 4] = ["0", "-", "00", "x"];
 
 /// The text of one line.
 pub fn text(line: usize, last: bool, random: &mut Random) -> Vec<u8> {
-    let settings = cases::settings(line % cases::SETTINGS);
-    let mut words = wish(&settings, random);
+    let payload = payload(random);
+    let words = wish(line, &payload, random);
     if last {
         return spelled(&words, random);
     }
+    written(words, random)
+}
+
+/// The text of one line, mostly for a frame without a header. Every seventh is one
+/// for a frame with a header.
+pub fn agreed_text(line: usize, last: bool, random: &mut Random) -> Vec<u8> {
+    if line % 7 == 5 && !last {
+        return text(line, last, random);
+    }
+    let payload = payload(random);
+    // A length of more than 16 bits is cut down, and then not the payload's.
+    let mut length = payload.len() as u16;
+    if !last && random.once_in(6) {
+        length = other_length(length, random);
+    }
+    let mut words = vec![Word::Number(length)];
+    words.extend(wish(line, &payload, random));
+    if last {
+        return marked(&spelled(&words, random), random);
+    }
+    if random.once_in(40) {
+        return marked_again(&spelled(&words, random), random);
+    }
+    marked(&written(words, random), random)
+}
+
+/// What the answer to a line for a frame without a header says: a capture, if it is
+/// made.
+pub fn agreed_outcomes(line: &[u8], answer: &[u8]) -> Vec<Outcome> {
+    let capture = answer.strip_suffix(b"\n").expect("a line");
+    agreed::outcomes_of(line, capture, tally::outcomes(line, answer))
+}
+
+/// Another length than this one, in range or not.
+fn other_length(length: u16, random: &mut Random) -> u16 {
+    match random.below(4) {
+        0 => length.wrapping_add(1),
+        1 => length.wrapping_sub(1),
+        2 => random.pick(&BAD_LENGTHS),
+        // Would come out right if cut to a byte.
+        _ => length.wrapping_add(256),
+    }
+}
+
+/// The words of a wish, in a text that is good or bad. SF and CR are out of range at
+/// times.
+fn written(mut words: Vec<Word>, random: &mut Random) -> Vec<u8> {
+    let sf = words.len() - 5;
     if random.once_in(16) {
-        words[0] = Word::Number(random.pick(&BAD_SPREADING));
+        words[sf] = Word::Number(random.pick(&BAD_SPREADING));
     }
     if random.once_in(16) {
-        words[2] = Word::Number(random.pick(&BAD_RATES));
+        words[sf + 2] = Word::Number(random.pick(&BAD_RATES));
     }
     match random.below(80) {
         0 => far_apart(&words, random).into_bytes(),
@@ -55,17 +102,22 @@ pub fn text(line: usize, last: bool, random: &mut Random) -> Vec<u8> {
     }
 }
 
-/// The words of a wish, the payload mostly short, at times too long.
-fn wish(settings: &Settings, random: &mut Random) -> Vec<Word> {
-    let length = length(random);
-    let payload = random.bytes(length);
+/// The words of a wish with the settings of this line.
+fn wish(line: usize, payload: &[u8], random: &mut Random) -> Vec<Word> {
+    let Settings { sf, low, kind } = cases::settings(line % cases::SETTINGS);
     vec![
-        Word::Number(settings.sf.into()),
-        Word::Number(settings.low.into()),
-        Word::Number(settings.cr.into()),
-        Word::Number(settings.checksum.into()),
-        Word::Exact(digits(&payload, random)),
+        Word::Number(sf.into()),
+        Word::Number(low.into()),
+        Word::Number(kind.cr().into()),
+        Word::Number(kind.checksum().into()),
+        Word::Exact(digits(payload, random)),
     ]
+}
+
+/// A payload, mostly short, at times too long.
+fn payload(random: &mut Random) -> Vec<u8> {
+    let length = length(random);
+    random.bytes(length)
 }
 
 fn length(random: &mut Random) -> usize {
@@ -108,7 +160,9 @@ fn far_apart(words: &[Word], random: &mut Random) -> String {
 /// its meaning, so it does not matter that settings and length may be bad too.
 fn bad_text(good: &[Word], random: &mut Random) -> Vec<u8> {
     let mut words = plainly(good);
-    let number = random.below(4);
+    let payload = words.len() - 1;
+    let (low, flag) = (payload - 3, payload - 1);
+    let number = random.below(payload);
     match random.below(20) {
         0 => words.clear(),
         1 => return blank(random).into_bytes(),
@@ -117,17 +171,17 @@ fn bad_text(good: &[Word], random: &mut Random) -> Vec<u8> {
             words.remove(number);
         }
         4 => words.push(random.pick(&FURTHER).to_string()),
-        5 => words[1] = random.pick(&BAD_FLAGS).to_string(),
-        6 => words[3] = random.pick(&BAD_FLAGS).to_string(),
+        5 => words[low] = random.pick(&BAD_FLAGS).to_string(),
+        6 => words[flag] = random.pick(&BAD_FLAGS).to_string(),
         7 => words[number] = random.pick(&BAD_NUMBERS).to_string(),
         8 => words[number] = "-".to_string(),
         9 => words[number].insert(0, '-'),
         10 => words[number].insert(0, random.pick(&['A', 'f'])),
-        11 | 12 => words[4] = random.pick(&BAD_PAYLOADS).to_string(),
-        13 => words[4] = one_digit_less(&words[4]),
-        14 => words[4].push('0'),
-        15 | 16 => words[4] = spoiled(&words[4], random),
-        17 => words[4].push('\r'),
+        11 | 12 => words[payload] = random.pick(&BAD_PAYLOADS).to_string(),
+        13 => words[payload] = one_digit_less(&words[payload]),
+        14 => words[payload].push('0'),
+        15 | 16 => words[payload] = spoiled(&words[payload], random),
+        17 => words[payload].push('\r'),
         _ => return intruded(good, random),
     }
     words.join(" ").into_bytes()
