@@ -3,15 +3,15 @@
 use mathlib.Core.Path.{_≡_, refl, sym, ap, _∙_}
 use mathlib.Core.Bool.{Bool, true, false}
 use mathlib.Core.List.{List, [], _∷_}
-use Prim.Native.Nat.{ℕ, _+_, _^_, _<_, _≤_}
+use Prim.Native.Nat.{ℕ, _+_, _<_, _≤_}
 use native.Mathlib.Omega.{arith}
 use lib.Dec.{leb}
 use lib.ListN.{length, getD}
-use borrow.Author.Tests.{lt-leb, le-leb, leb-true, leb-false}
+use borrow.Author.Tests.{lt-leb, le-leb, leb-false}
 use Rattle.bits.specs.Check.{check}
 use Rattle.bits.specs.Search.{howMany}
 use Rattle.bits.specs.Tab.{tab}
-use Rattle.bits.proofs.Searches.{first-range, first-before, first-cong, howMany-cong}
+use Rattle.bits.proofs.Searches.{first-range, first-cong, howMany-cong}
 use Rattle.bits.proofs.Tabs.{tab-cong}
 use Rattle.codeword.specs.Codeword.{nibbleOf, isRepaired, isUnreadable}
 use Rattle.codeword.specs.Found.{Found}
@@ -28,26 +28,20 @@ use Rattle.reading.specs.Found.{foundAt, unreadableAt, repairedAt, nibbleAt, fo
 use Rattle.reading.specs.Stages.{gridOfSymbols, rowsFrom, Walk}
 use Rattle.reading.proofs.ReadingLaws.{found-in-first, walk-nibbles}
 use Rattle.reading.proofs.RowLaws.{row-in-first}
-use Rattle.lora.specs.Head.{isOver, firstOver, headerFound, unreadableInHeader, said, headerOf, headOf}
+use Rattle.lora.specs.Head.{firstOver, headerFound, unreadableInHeader, said, headerOf, headOf}
 use Rattle.lora.specs.declared.Heading.{Heading}
 use Rattle.lora.specs.declared.Heading.the-variants.{Says, Refused}
 use Rattle.lora.proofs.CountLaws.{sf-valid}
 
--- where head says a header: the spreading factor, the length and the rate are in range, and the first eight symbols are below 2^SF
-pub record Heads (sf : ℕ) (symbols : List ℕ) (h : Header) : Type 0 where
+-- where head says a header: the spreading factor, the length and the rate are in range
+pub record Heads (sf : ℕ) (h : Header) : Type 0 where
   pub sf-low : 7 ≤ sf
   pub sf-high : sf ≤ 12
   pub short : h .length ≤ 255
   pub cr-low : 1 ≤ h .cr
   pub cr-high : h .cr ≤ 4
-  pub starts : (t : ℕ) → t < 8 → getD symbols t 0 < 2 ^ sf
 
 module _ (sf : ℕ) (symbols : List ℕ) where
-  -- where none of the first eight symbols is 2^SF or more, each is below
-  eight-below : 8 ≤ firstOver sf symbols 8 0 → (t : ℕ) → t < 8 → getD symbols t 0 < 2 ^ sf
-  unfolding firstOver isOver
-  eight-below h t l = leb-false (2 ^ sf) (getD symbols t 0) (first-before (isOver sf symbols) 8 0 t (omega arith) (omega arith))
-
   -- what the header's codewords are read as are nibbles
   header-small : (i : ℕ) → nibbleAt (headerFound sf symbols) i < 16
   unfolding headerFound foundInBlock
@@ -66,27 +60,27 @@ module _ (sf : ℕ) (symbols : List ℕ) where
   -- what head answers, by its checks
   pub head-cases : (P : Heading → Type 0) → P (Refused 1 0) → P (Refused 5 8) → P (Refused 6 (firstOver sf symbols 8 0))
       → (7 ≤ sf → unreadableInHeader (headerFound sf symbols) < 5 → P (Refused 7 (unreadableInHeader (headerFound sf symbols))))
-      → (7 ≤ sf → sf ≤ 12 → 8 ≤ firstOver sf symbols 8 0 → P (said (verdictOf (tab 5 (nibbleAt (headerFound sf symbols)))))) → P (headOf sf symbols)
+      → (7 ≤ sf → sf ≤ 12 → P (said (verdictOf (tab 5 (nibbleAt (headerFound sf symbols)))))) → P (headOf sf symbols)
   unfolding headOf headerOf
   head-cases P one five six seven header =
-      by (validSf sf) (leb 8 (length symbols)) (leb 8 (firstOver sf symbols 8 0)) (leb 5 (unreadableInHeader (headerFound sf symbols))) refl refl refl
+      by (validSf sf) (leb 8 (length symbols)) (leb 8 (firstOver sf symbols 8 0)) (leb 5 (unreadableInHeader (headerFound sf symbols))) refl refl
     where
-      by : (a b c d : Bool) → validSf sf ≡ a → leb 8 (firstOver sf symbols 8 0) ≡ c → leb 5 (unreadableInHeader (headerFound sf symbols)) ≡ d
+      by : (a b c d : Bool) → validSf sf ≡ a → leb 5 (unreadableInHeader (headerFound sf symbols)) ≡ d
           → P (check a (Refused 1 0) (check b (Refused 5 8) (check c (Refused 6 (firstOver sf symbols 8 0))
           (check d (Refused 7 (unreadableInHeader (headerFound sf symbols))) (said (verdictOf (tab 5 (nibbleAt (headerFound sf symbols)))))))))
-      by true true true true p o q = let (low, high) = sf-valid sf p in header low high (leb-true 8 (firstOver sf symbols 8 0) o)
-      by true true true false p o q = seven (sf-valid sf p .0) (leb-false 5 (unreadableInHeader (headerFound sf symbols)) q)
-      by true true false d p o q = six
-      by true false c d p o q = five
-      by false b c d p o q = one
+      by true true true true p q = let (low, high) = sf-valid sf p in header low high
+      by true true true false p q = seven (sf-valid sf p .0) (leb-false 5 (unreadableInHeader (headerFound sf symbols)) q)
+      by true true false d p q = six
+      by true false c d p q = five
+      by false b c d p q = one
 
-  pub head-sound : (h : Header) → headOf sf symbols ≡ Says h → Heads sf symbols h
+  pub head-sound : (h : Header) → headOf sf symbols ≡ Says h → Heads sf h
   head-sound h =
-      head-cases (λ r. r ≡ Says h → Heads sf symbols h) other other other (λ low l. other) λ low high none e.
+      head-cases (λ r. r ≡ Says h → Heads sf h) other other other (λ low l. other) λ low high e.
       let (x, y, z) = said-range h e in
-      record { sf-low = low; sf-high = high; short = omega arith; cr-low = y; cr-high = z; starts = eight-below none }
+      record { sf-low = low; sf-high = high; short = omega arith; cr-low = y; cr-high = z }
     where
-      other : {number place : ℕ} → Refused number place ≡ Says h → Heads sf symbols h
+      other : {number place : ℕ} → Refused number place ≡ Says h → Heads sf h
       other e = absurd (let z : _≡_ {A = ℕ} 0 1 = cc in omega arith)
 
 -- the header's codewords are the frame's first five, whatever the rest of the frame is like

@@ -2,4 +2,5 @@ pub mod AnswerLaws
 pub mod CountLaws
 pub mod HeadLaws
 pub mod ReadLaws
+pub mod SendLaws
 pub mod TimeLaws

@@ -10,11 +10,11 @@ use lib.Dec.{leb, eqb}
 use lib.IntN.{ℤ}
 use lib.ListN.{length, getD, take, drop}
 use lib.Seq.{take-at, length-take-le, getD-take}
-use borrow.Author.Tests.{lt-leb, le-leb}
+use borrow.Author.Tests.{lt-leb, le-leb, leb-false}
 use Rattle.bits.specs.Check.{check}
 use Rattle.bits.specs.Search.{first, howMany}
 use Rattle.bits.specs.Tab.{tab, over, blank}
-use Rattle.bits.proofs.Searches.{first-range, first-none, first-shift, howMany-add, howMany-cong, howMany-le}
+use Rattle.bits.proofs.Searches.{first-range, first-none, first-before, first-shift, howMany-add, howMany-cong, howMany-le}
 use Rattle.bits.proofs.Tabs.{length-blank, length-tab, getD-over, over-cong}
 use Rattle.checksum.specs.Checksum.{checksum}
 use Rattle.codeword.specs.Codeword.{isRepaired}
@@ -23,15 +23,16 @@ use Rattle.header.specs.declared.Header.{Header}
 use Rattle.layout.specs.Layout.{firstBlock, dataNibbles, nibblesOf, symbolsOf}
 use Rattle.layout.specs.Ranges.{Valid}
 use Rattle.layout.specs.declared.Frame.{Frame}
-use Rattle.layout.proofs.LayoutLaws.{symbols-ge}
 use Rattle.reading.specs.Found.{foundAt, unreadableAt, repairedAt}
 use Rattle.reading.specs.Payload.{payloadByte, sentChecksum}
 use Rattle.reading.specs.Stages.{gridOfSymbols, readRow, dataFound, listed, Walk, flips, Marked}
+use Rattle.reading.proofs.HurtLaws.{flips-none}
 use Rattle.reading.proofs.ReadingLaws.{blank-small, nibble-data-lt, walk-nibbles, walk-small, payload-cong, checksum-cong}
 use Rattle.lora.specs.Head.{isOver, firstOver, headerFound}
-use Rattle.lora.specs.Read.{overInRest, unreadableInData, nibbleFound, byteFound, sumHolds, repairsOf, hurtFound, acceptedOf, bodyOf, frameSaid}
+use Rattle.lora.specs.Read.{overInFrame, unreadableInData, nibbleFound, byteFound, sumHolds, repairsOf, hurtFound, acceptedOf, bodyOf, frameSaid}
 use Rattle.lora.specs.Stages.{sumAgrees, Headed, dataOf}
 use Rattle.lora.specs.declared.Accepted.{Accepted}
+use Rattle.lora.specs.declared.Expected.the-variants.{Explicit}
 use Rattle.lora.specs.declared.Received.the-variants.{Payload, Refused}
 use Rattle.lora.proofs.HeadLaws.{Heads, header-found}
 
@@ -168,7 +169,7 @@ module _ (F : Frame) (symbols : List ℕ) (room marks len : ℕ) where
       unfolding bodyOf
       says-five h = rw (← is, le-leb _ _ fits, le-leb _ _ listed, lt-leb _ _ h)
 
-      module _ {over : ℕ} (there : total ≤ length symbols) (found : over ≡ overInRest F symbols len) where
+      module _ {over : ℕ} (there : total ≤ length symbols) (found : over ≡ overInFrame F symbols len) where
         pub says-six : over < total → bodyOf F symbols room marks len ≡ Refused 6 over
         unfolding bodyOf
         says-six h = rw (← is, ← found, le-leb _ _ fits, le-leb _ _ listed, le-leb _ _ there, lt-leb _ _ h)
@@ -180,12 +181,17 @@ module _ (F : Frame) (symbols : List ℕ) (room marks len : ℕ) where
 -- of a frame that is there whole, each symbol below 2^SF, the checks from 7 on decide
 pub body-data : (F : Frame) (symbols : List ℕ) (room marks len : ℕ) → len ≤ room → symbolsOf F len ≤ marks → symbolsOf F len ≤ length symbols
     → ((t : ℕ) → t < symbolsOf F len → getD symbols t 0 < 2 ^ (F .sf)) → bodyOf F symbols room marks len ≡ dataOf F symbols len
-unfolding overInRest firstOver isOver
+unfolding overInFrame firstOver isOver
 body-data F symbols room marks len fits lists there below =
-    let total : ℕ = symbolsOf F len in
-    let eight : 8 ≤ total = symbols-ge F len in
-    let none = first-none (isOver (F .sf) symbols) (total - 8) 8 (λ t a b. lt-leb _ _ (below t (omega (arith, eight)))) in
-    says-data F symbols room marks len refl fits lists there refl (omega (arith, eight, none))
+    let none = first-none (isOver (F .sf) symbols) (symbolsOf F len) 0 (λ t a b. lt-leb _ _ (below t (omega arith))) in
+    says-data F symbols room marks len refl fits lists there refl (omega (arith, none))
+
+-- where none of its symbols is 2^SF or more, each is below
+pub all-below : (F : Frame) (symbols : List ℕ) (len : ℕ) → symbolsOf F len ≤ overInFrame F symbols len
+    → (t : ℕ) → t < symbolsOf F len → getD symbols t 0 < 2 ^ (F .sf)
+unfolding overInFrame firstOver isOver
+all-below F symbols len h t l =
+    leb-false (2 ^ F .sf) (getD symbols t 0) (first-before (isOver (F .sf) symbols) (symbolsOf F len) 0 t (omega arith) (omega arith))
 
 -- the front of a list, copied out: the payload's bytes, and the symbols' marks
 copied : (n : ℕ) (l old : List ℕ) (f : ℕ → ℕ) → n ≤ length l → ((i : ℕ) → i < n → getD l i 0 ≡ f i) → over (length (take n l)) (listed (take n l)) old ≡ over n f old
@@ -202,17 +208,23 @@ unfolding hurtFound
 copied-marks {marks} {total} F symbols len old is room m = rw is (copied (symbolsOf F len) marks old _ (rw is at room) (m .cells))
 
 -- where head says a header, the frame behind it can be read on
-pub headed : (sf : ℕ) (low : Bool) (symbols : List ℕ) (h : Header) {grid : List (List Bool)} {repairs counts : ℕ} → Heads sf symbols h
+pub headed : (sf : ℕ) (low : Bool) (symbols : List ℕ) (h : Header) {grid : List (List Bool)} {repairs counts : ℕ} → Heads sf h
     → grid ≡ gridOfSymbols (firstBlock sf) symbols → repairs ≡ howMany (repairedAt (headerFound sf symbols)) 5 → counts ≡ flips (readRow 4 grid) 5
-    → Headed (frameSaid sf low (h .cr) (h .checked)) symbols (h .length) grid repairs counts
+    → Headed (frameSaid sf low Explicit (h .cr) (h .checked)) symbols (h .length) grid repairs counts
 headed sf low symbols h {grid} {repairs} p g r c =
-    let F : Frame = frameSaid sf low (h .cr) (h .checked) in
+    let F : Frame = frameSaid sf low Explicit (h .cr) (h .checked) in
     let v : Valid F = record { sf-low = p .sf-low; sf-high = p .sf-high; cr-low = p .cr-low; cr-high = p .cr-high; header-high = omega arith } in
     record {
       valid = v;
       short = p .short;
-      starts = p .starts;
       first = g;
       repaired = r ∙ howMany-cong _ _ 5 (λ i l. ap isRepaired (sym (header-found F symbols v i l)));
       flipped = c;
     }
+
+-- and a frame that has none, from its first codeword on
+pub unheaded : (F : Frame) (symbols : List ℕ) (len : ℕ) {grid : List (List Bool)} → Valid F → F .header ≡ 0 → len ≤ 255
+    → grid ≡ gridOfSymbols (firstBlock (F .sf)) symbols → Headed F symbols len grid 0 0
+unfolding howMany
+unheaded F symbols len {grid} v none short g =
+    record { valid = v; short = short; first = g; repaired = rw none; flipped = rw none (flips-none (readRow 4 grid)) }

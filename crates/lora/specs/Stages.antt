@@ -37,12 +37,11 @@ pub record Opening (grid : List (List Bool)) (heading : Heading) (repairs counts
   pub repaired : (h : Header) → heading ≡ Says h → repairs ≡ howMany (repairedAt (rowsFrom 4 grid 0)) 5
   pub flipped : (h : Header) → heading ≡ Says h → counts ≡ flips (readRow 4 grid) 5
 
--- a header was read: the frame that it says is valid, its first eight symbols are below 2^SF, block 0 is in the grid, and its repairs
--- and flips are counted
+-- a frame's header was read, or it has none: the frame is valid, block 0 is in the grid, and the repairs and flips of its header are
+-- counted
 pub record Headed (F : Frame) (symbols : List ℕ) (len : ℕ) (grid : List (List Bool)) (repairs counts : ℕ) : Type 0 where
   pub valid : Valid F
   pub short : len ≤ 255
-  pub starts : (t : ℕ) → t < 8 → getD symbols t 0 < 2 ^ F .sf
   pub first : grid ≡ gridOfSymbols (firstBlock (F .sf)) symbols
   pub repaired : repairs ≡ howMany (repairedAt (foundAt F symbols)) (F .header)
   pub flipped : counts ≡ flips (readRow 4 grid) (F .header)
@@ -54,17 +53,20 @@ dataOf F symbols len =
     (check (sumHolds F symbols len) (Refused 12 0)
     (Payload (acceptedOf F symbols len)))
 
--- the checks of read from the payload's 4 to 6: passed, and then there is room, the whole frame is there and the others decide; or not
+-- the checks of read from the payload's 4 to 6: passed, and then there is room, the whole frame is there below 2^SF and the others
+-- decide; or not
 abbrev pub Admitted : Entry → Frame → List ℕ → ℕ → ℕ → ℕ → Type 0
 Admitted Passed F symbols room marks len =
-    (len ≤ room) × (symbolsOf F len ≤ marks) × (symbolsOf F len ≤ length symbols) × (bodyOf F symbols room marks len ≡ dataOf F symbols len)
+    (len ≤ room) × (symbolsOf F len ≤ marks) × (symbolsOf F len ≤ length symbols)
+    × ((t : ℕ) → t < symbolsOf F len → getD symbols t 0 < 2 ^ F .sf) × (bodyOf F symbols room marks len ≡ dataOf F symbols len)
 Admitted (EntryRefused number place) F symbols room marks len = bodyOf F symbols room marks len ≡ Refused number place
 
--- a header was read, and the whole frame is there
+-- such a frame, which is there whole and below 2^SF
 pub record Decodable (F : Frame) (symbols : List ℕ) (len : ℕ) (grid : List (List Bool)) (repairs counts total : ℕ) : Type 0 where
   pub headed : Headed F symbols len grid repairs counts
   pub whole : total ≡ symbolsOf F len
   pub there : total ≤ length symbols
+  pub below : (t : ℕ) → t < total → getD symbols t 0 < 2 ^ F .sf
 
 -- the checksum of the listed payload is that among the listed nibbles, where there is one
 unfoldable pub sumAgrees : Frame → ℕ → List ℕ → List ℕ → Bool

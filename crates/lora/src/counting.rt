@@ -1,7 +1,8 @@
 // The operation count.
 ghost use mathlib.Core.Path.{_≡_};
-ghost use Rattle.lora.specs.Count.{frameOf, countOf};
+ghost use Rattle.lora.specs.Count.{frameOf, takes, countOf};
 use crate::Counted;
+use crate::Kind;
 use crate::Settings;
 use layout::Frame;
 
@@ -12,12 +13,45 @@ const HEADER: usize = 5;
 pub fn frame_of(s: Settings) -> Frame
     ensures { λ r. ⌜ r ≡ frameOf s ⌝ }
 {
-    Frame {
-        sf: s.sf,
-        low: s.low,
-        cr: s.cr,
-        checked: s.checked,
-        header: HEADER,
+    let sf = s.sf;
+    let low = s.low;
+    let kind = s.kind;
+    match kind {
+        Kind::Explicit { cr, checked } => Frame {
+            sf,
+            low,
+            cr,
+            checked,
+            header: HEADER,
+        },
+        Kind::Agreed {
+            length: _,
+            cr,
+            checked,
+        } => Frame {
+            sf,
+            low,
+            cr,
+            checked,
+            header: 0,
+        },
+    }
+}
+
+// Whether a payload may have this length: at most 255, and as was agreed.
+fn takes(kind: Kind, length: usize) -> bool
+    ensures { λ r. ⌜ r ≡ takes kind length ⌝ }
+{
+    if layout::LONGEST < length {
+        return false;
+    }
+    match kind {
+        Kind::Explicit { cr: _, checked: _ } => true,
+        Kind::Agreed {
+            length: agreed,
+            cr: _,
+            checked: _,
+        } => length == agreed,
     }
 }
 
@@ -25,25 +59,27 @@ pub fn frame_of(s: Settings) -> Frame
 pub fn count(s: Settings, length: usize) -> Counted
     ensures { λ r. ⌜ r ≡ countOf s length ⌝ }
 {
-    if !layout::valid_sf(s.sf) {
+    let f = frame_of(s);
+    if !layout::valid_sf(f.sf) {
         return Counted::Refused {
             number: refusal::BAD_SF,
             place: 0,
         };
     }
-    if !layout::valid_cr(s.cr) {
+    if !layout::valid_cr(f.cr) {
         return Counted::Refused {
             number: refusal::BAD_CR,
             place: 0,
         };
     }
-    if layout::LONGEST < length {
+    let kind = s.kind;
+    if !takes(kind, length) {
         return Counted::Refused {
             number: refusal::TOO_LONG,
             place: 0,
         };
     }
     Counted::Symbols {
-        count: layout::symbols_of(frame_of(s), length),
+        count: layout::symbols_of(f, length),
     }
 }

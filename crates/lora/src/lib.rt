@@ -12,12 +12,35 @@ pub use receiving::read;
 pub use sending::code;
 pub use timing::airtime;
 
-// What a frame is sent with: spreading factor, low-rate flag, code rate, and whether a checksum follows the payload.
+// How the two sides know a frame's length, its code rate and whether a checksum follows the payload: from an explicit header that
+// is sent in front, or because it was agreed.
+pub enum Kind {
+    Explicit {
+        cr: u8,
+        checked: bool,
+    },
+    Agreed {
+        length: usize,
+        cr: u8,
+        checked: bool,
+    },
+}
+
+// What a frame is sent with: spreading factor, low-rate flag, and the rest by its kind.
 pub struct Settings {
     pub sf: u8,
     pub low: bool,
-    pub cr: u8,
-    pub checked: bool,
+    pub kind: Kind,
+}
+
+// What a reader expects: a header, which says the rest, or a frame as it was agreed.
+pub enum Expected {
+    Explicit,
+    Agreed {
+        length: usize,
+        cr: u8,
+        checked: bool,
+    },
 }
 
 // The answer of count and code.

@@ -9,9 +9,13 @@ ghost use Rattle.layout.specs.Ranges.{Valid};
 ghost use Rattle.reading.specs.Stages.{listed};
 ghost use Rattle.lora.specs.Read.{bodyOf, Reading};
 ghost use Rattle.lora.specs.Stages.{Entered, sumAgrees, Headed, dataOf, Admitted, Decodable, Decoded, Bodied};
+ghost use Rattle.lora.specs.declared.Expected.the-variants.{Explicit, Agreed};
 ghost use Rattle.lora.specs.declared.opening.Entry.the-variants.{Passed};
 use crate::Accepted;
+use crate::Counted;
+use crate::Expected;
 use crate::Heading;
+use crate::Kind;
 use crate::Received;
 use crate::Settings;
 use crate::counting;
@@ -179,7 +183,7 @@ fn admit(f: Frame, symbols: &[u16], len: usize, total: usize, room: usize, marks
             place: total,
         };
     }
-    let over = opening::first_over(f.sf, symbols, 8, total);
+    let over = opening::first_over(f.sf, symbols, 0, total);
     if over < total {
         return Entry::Refused {
             number: refusal::SYMBOL_OVER,
@@ -227,11 +231,11 @@ fn read_body(
     }
 }
 
-// Reads a frame whose checks before the header are passed. The tables of readings and steps are lent from here to header and
+// Reads a frame with a header, whose checks before it are passed. The tables of readings and steps are lent from here to header and
 // data, since a constant array is copied at each use.
 fn read_on(sf: u8, low: bool, symbols: &[u16], out: &mut [u8], hurts: &mut [u8]) -> Received
     requires { ⌜ Entered Passed sf (now symbols) ⌝ }
-    ensures { λ r. ⌜ Reading sf low (now (symbols .entry)) (now (out .entry)) (now (out .exit)) (now (hurts .entry)) (now (hurts .exit)) r ⌝ }
+    ensures { λ r. ⌜ Reading sf low Explicit (now (symbols .entry)) (now (out .entry)) (now (out .exit)) (now (hurts .entry)) (now (hurts .exit)) r ⌝ }
 {
     let grid = reading::first_grid(sf, symbols);
     let readings = codeword::readings();
@@ -244,8 +248,10 @@ fn read_on(sf: u8, low: bool, symbols: &[u16], out: &mut [u8], hurts: &mut [u8])
             let s = Settings {
                 sf,
                 low,
-                cr: h.cr,
-                checked: h.checked,
+                kind: Kind::Explicit {
+                    cr: h.cr,
+                    checked: h.checked,
+                },
             };
             read_body(
                 &readings,
@@ -263,13 +269,98 @@ fn read_on(sf: u8, low: bool, symbols: &[u16], out: &mut [u8], hurts: &mut [u8])
     }
 }
 
-// Reads a frame's payload into the lent buffer, and into the lent list how many bits were repaired in each of its symbols.
-pub fn read(sf: u8, low: bool, symbols: &[u16], out: &mut [u8], hurts: &mut [u8]) -> Received
-    ensures { λ r. ⌜ Reading sf low (now (symbols .entry)) (now (out .entry)) (now (out .exit)) (now (hurts .entry)) (now (hurts .exit)) r ⌝ }
+// Reads a frame by what its header says.
+fn read_explicit(sf: u8, low: bool, symbols: &[u16], out: &mut [u8], hurts: &mut [u8]) -> Received
+    ensures { λ r. ⌜ Reading sf low Explicit (now (symbols .entry)) (now (out .entry)) (now (out .exit)) (now (hurts .entry)) (now (hurts .exit)) r ⌝ }
 {
     let entry = opening::enter(sf, symbols);
     match entry {
         Entry::Refused { number, place } => Received::Refused { number, place },
         Entry::Passed => read_on(sf, low, symbols, out, hurts),
+    }
+}
+
+// Reads a frame of so many symbols that has no header: block 0 is looked at only when the whole frame is known to be there.
+fn read_bare(
+    f: Frame,
+    symbols: &[u16],
+    len: usize,
+    total: usize,
+    out: &mut [u8],
+    hurts: &mut [u8],
+) -> Received
+    requires { ⌜ Valid f × (f .header ≡ 0) × (len ≤ 255) × (total ≡ symbolsOf f len) ⌝ }
+    ensures { λ r. ⌜ Bodied (bodyOf f (now (symbols .entry)) (length (now (out .entry))) (length (now (hurts .entry))) len) f (now (symbols .entry)) len (now (out .entry)) (now (out .exit)) (now (hurts .entry)) (now (hurts .exit)) r ⌝ }
+{
+    let entry = admit(f, symbols, len, total, out.len(), hurts.len());
+    match entry {
+        Entry::Refused { number, place } => Received::Refused { number, place },
+        Entry::Passed => {
+            let grid = reading::first_grid(f.sf, symbols);
+            let readings = codeword::readings();
+            let steps = codeword::steps();
+            deliver(
+                &readings,
+                &steps,
+                f,
+                &grid,
+                0,
+                0,
+                symbols,
+                len,
+                total,
+                out,
+                hurts,
+            )
+        }
+    }
+}
+
+// Reads a frame by the values that were agreed.
+fn read_agreed(
+    sf: u8,
+    low: bool,
+    length: usize,
+    cr: u8,
+    checked: bool,
+    symbols: &[u16],
+    out: &mut [u8],
+    hurts: &mut [u8],
+) -> Received
+    ensures { λ r. ⌜ Reading sf low (Agreed length cr checked) (now (symbols .entry)) (now (out .entry)) (now (out .exit)) (now (hurts .entry)) (now (hurts .exit)) r ⌝ }
+{
+    let kind = Kind::Agreed {
+        length,
+        cr,
+        checked,
+    };
+    let s = Settings { sf, low, kind };
+    let counted = counting::count(s, length);
+    match counted {
+        Counted::Refused { number, place } => Received::Refused { number, place },
+        Counted::Symbols { count } => {
+            read_bare(counting::frame_of(s), symbols, length, count, out, hurts)
+        }
+    }
+}
+
+// Reads a frame's payload into the lent buffer, and into the lent list how many bits were repaired in each of its symbols.
+pub fn read(
+    sf: u8,
+    low: bool,
+    expected: Expected,
+    symbols: &[u16],
+    out: &mut [u8],
+    hurts: &mut [u8],
+) -> Received
+    ensures { λ r. ⌜ Reading sf low expected (now (symbols .entry)) (now (out .entry)) (now (out .exit)) (now (hurts .entry)) (now (hurts .exit)) r ⌝ }
+{
+    match expected {
+        Expected::Explicit => read_explicit(sf, low, symbols, out, hurts),
+        Expected::Agreed {
+            length,
+            cr,
+            checked,
+        } => read_agreed(sf, low, length, cr, checked, symbols, out, hurts),
     }
 }

@@ -5,20 +5,21 @@ ghost use lib.ListN.{length};
 ghost use Rattle.bits.specs.Tab.{over};
 ghost use Rattle.layout.specs.Layout.{symbolsOf};
 ghost use Rattle.layout.specs.Ranges.{Valid};
-ghost use Rattle.lora.specs.Count.{frameOf};
 ghost use Rattle.lora.specs.Code.{sentSymbol, Coding};
 use crate::Counted;
 use crate::Settings;
 use crate::counting;
+use layout::Frame;
 
-// Writes the frame's symbols.
-fn send(s: Settings, payload: &[u8], out: &mut [u16])
-    requires { ⌜ Valid (frameOf s) × (length (now payload) ≤ 255) × (symbolsOf (frameOf s) (length (now payload)) ≤ length (now out)) ⌝ }
-    ensures { λ _. ⌜ now (out .exit) ≡ over (symbolsOf (frameOf s) (length (now (payload .entry)))) (sentSymbol s (now (payload .entry))) (now (out .entry)) ⌝ }
+// Writes the symbols of a frame, with as much of the header as it has: all or nothing.
+fn send(f: Frame, payload: &[u8], out: &mut [u16])
+    requires { ⌜ Valid f × (length (now payload) ≤ 255) × (symbolsOf f (length (now payload)) ≤ length (now out)) ⌝ }
+    ensures { λ _. ⌜ now (out .exit) ≡ over (symbolsOf f (length (now (payload .entry)))) (sentSymbol f (now (payload .entry))) (now (out .entry)) ⌝ }
 {
-    let header = header::header_nibbles(payload.len(), s.cr, s.checked);
+    let n = f.header;
+    let header = header::header_nibbles(payload.len(), f.cr, f.checked);
     let checksum = checksum::checksum(payload);
-    coding::write_frame(counting::frame_of(s), &header, payload, checksum, out);
+    coding::write_frame(f, &header[..n], payload, checksum, out);
 }
 
 // Codes a payload into the lent list of symbols, and answers their count.
@@ -35,7 +36,7 @@ pub fn code(s: Settings, payload: &[u8], out: &mut [u16]) -> Counted
                     place: count,
                 };
             }
-            send(s, payload, out);
+            send(counting::frame_of(s), payload, out);
             Counted::Symbols { count }
         }
     }

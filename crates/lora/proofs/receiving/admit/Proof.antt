@@ -3,10 +3,10 @@ use mathlib.Core.Path.{_≡_, ap, _∙_}
 use Prim.Native.Nat.{ℕ, _-_}
 use native.Mathlib.Omega.{arith}
 use denote.Ref.{now}
-use Rattle.layout.proofs.LayoutLaws.{symbols-ge}
+use Rattle.layout.specs.Layout.{symbolsOf}
 use Rattle.lora.specs.Head.{firstOver}
-use Rattle.lora.specs.Read.{overInRest}
-use Rattle.lora.proofs.ReadLaws.{says-four, says-four-marks, says-five, says-six, says-data}
+use Rattle.lora.specs.Read.{overInFrame}
+use Rattle.lora.proofs.ReadLaws.{says-four, says-four-marks, says-five, says-six, says-data, all-below}
 use borrow.Author.Needs.{needs}
 use Rattle.lora.proofs.receiving.admit.Statement.{statement}
 use Rattle.lora.proofs.receiving.admit.Tie as tie
@@ -15,11 +15,12 @@ use Rattle.lora.proofs.receiving.admit.Tie as tie
 abbrev start : tie.After-first-over → tie.Start
 start c = c .before .before .before .before .before
 
-over-is : (c : tie.After-first-over) → let a = start c .args in c .first-over .result ≡ overInRest (a .f) (now (a .symbols)) (a .len)
-unfolding overInRest
+over-is : (c : tie.After-first-over) → let a = start c .args in c .first-over .result ≡ overInFrame (a .f) (now (a .symbols)) (a .len)
+unfolding overInFrame
 over-is c =
     let a = start c .args in
-    c .first-over .ensures ∙ ap (λ (t : ℕ). firstOver (a .f .sf) (now (a .symbols)) (t - 8) 8) (start c .pre .1)
+    let all : a .total - 0 ≡ symbolsOf (a .f) (a .len) = omega (arith, start c .pre .1) in
+    c .first-over .ensures ∙ ap (λ (t : ℕ). firstOver (a .f .sf) (now (a .symbols)) t 0) all
 
 returns : tie.Need-returns
 returns c = says-four _ _ _ _ _ (c .if1 .taken)
@@ -31,9 +32,7 @@ returns-3 : tie.Need-returns-3
 returns-3 c = says-five _ _ _ _ _ (c .before .before .before .before .pre .1) (c .before .before .if1 .left) (c .before .if2 .left) (c .if3 .taken)
 
 first-over-requires : tie.Need-first-over-requires
-first-over-requires c κs =
-    let s = c .before .before .before .before in
-    (s .pre .0 .sf-high, omega (arith, s .pre .1, symbols-ge (s .args .f) (s .args .len)), c .if3 .left)
+first-over-requires c κs = (c .before .before .before .before .pre .0 .sf-high, omega arith, c .if3 .left)
 
 returns-4 : tie.Need-returns-4
 returns-4 c =
@@ -50,6 +49,7 @@ returns-5 c =
       fits,
       omega (arith, total, lists),
       omega (arith, total, there),
+      all-below (start f .args .f) (now (start f .args .symbols)) (start f .args .len) (omega (arith, total, over-is f, c .if4 .left)),
       says-data _ _ _ _ _ total fits lists there (over-is f) (c .if4 .left),
     )
 

@@ -129,8 +129,9 @@ shared-slice-read-drift-of-number c =
 drift-of-number-requires : tie.Need-drift-of-number-requires
 drift-of-number-requires c κs =
     let p = c .before .before .before .before .before in
-    let h = start (p .before .before .before .before) .pre .2 .headed in
-    (h .valid .sf-low, h .valid .sf-high, h .starts 0 (omega arith))
+    let s = start (p .before .before .before .before) in
+    let v = s .pre .2 .headed .valid in
+    (v .sf-low, v .sf-high, s .pre .2 .below 0 (omega (arith, s .pre .2 .whole, symbols-ge (s .args .f) (s .args .len))))
 
 -- the first symbol's drift, as it stands in the answer
 first-drift : (c : tie.After-drift-of-number) → let a = start (c .before .before .before .before .before .before .before .before .before .before) .args in

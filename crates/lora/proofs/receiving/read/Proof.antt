@@ -1,25 +1,19 @@
--- The checks before the header, then the rest.
-use mathlib.Core.Path.{refl}
-use Rattle.lora.specs.Read.{readOf}
+-- By the header, or by the values that were agreed.
 use borrow.Author.Needs.{needs}
 use Rattle.lora.proofs.receiving.read.Statement.{statement}
 use Rattle.lora.proofs.receiving.read.Tie as tie
 
-enter-requires : tie.Need-enter-requires
-enter-requires c κs = search needs
-
-enum-known-entry : tie.Need-enum-known-entry
-enum-known-entry c = search needs
-
 enum-told : tie.Need-enum-told
 enum-told c = search needs
 
-read-on-requires : tie.Need-read-on-requires
-read-on-requires c κs = rw (c .before .before .enum-told .given .1) at (c .before .before .before .before .enter .ensures)
+read-explicit-requires : tie.Need-read-explicit-requires
+read-explicit-requires c κs = search needs
 
-returns : tie.Need-returns
-unfolding readOf
-returns c = record { answer = rw (rw (c .before .entry .given .1) at (c .before .before .before .enter .ensures)); cells = refl; marks = refl }
+enum-known-expected : tie.Need-enum-known-expected
+enum-known-expected c = search needs
+
+read-agreed-requires : tie.Need-read-agreed-requires
+read-agreed-requires c κs = search needs
 
 same-length : tie.Need-same-length
 same-length c = search needs
@@ -27,18 +21,29 @@ same-length c = search needs
 same-length-2 : tie.Need-same-length-2
 same-length-2 c = search needs
 
+returns : tie.Need-returns
+returns c = rw (c .before .before .before .before .before .before .before .enum-told .given .1) (c .before .before .before .before .read-explicit .ensures)
+
+same-length-3 : tie.Need-same-length-3
+same-length-3 c = search needs
+
+same-length-4 : tie.Need-same-length-4
+same-length-4 c = search needs
+
 returns-2 : tie.Need-returns-2
-returns-2 c = search needs
+returns-2 c = rw (c .before .before .before .before .before .before .before .before .expected .given .1) (c .before .before .before .before .read-agreed .ensures)
 
 pub read-spec : {M : Type 1} → statement M
 read-spec =
     tie.close
     (tie.spec
-    enter-requires
-    enum-known-entry
     enum-told
-    read-on-requires
-    returns
+    read-explicit-requires
+    enum-known-expected
+    read-agreed-requires
     same-length
     same-length-2
+    returns
+    same-length-3
+    same-length-4
     returns-2)

@@ -36,10 +36,10 @@ deliver-requires c κs =
     let d = t .before .before in
     let s = start d in
     let total = d .before .symbols-of .ensures in
-    let (fits, lists, there, is) = passed t in (
+    let (fits, lists, there, below, is) = passed t in (
       s .pre .0,
       s .pre .1,
-      record { headed = s .pre .2; whole = total; there = omega (arith, total, there) },
+      record { headed = s .pre .2; whole = total; there = omega (arith, total, there); below = rw total below },
       fits,
       omega (arith, total, lists),
     )
@@ -56,7 +56,7 @@ same-length-2 c = search needs
 returns-2 : tie.Need-returns-2
 returns-2 c =
     let d = c .before .before .before .before in
-    let (fits, lists, there, is) = passed (d .before .before .before) in
+    let (fits, lists, there, below, is) = passed (d .before .before .before) in
     let b = d .deliver .ensures in
     record { answer = b .answer ∙ sym is; cells = b .cells; marks = b .marks }
 

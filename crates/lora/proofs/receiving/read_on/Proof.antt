@@ -79,8 +79,8 @@ returns-2 c =
     let b = rw (f .frame-of .ensures) at (c .before .before .before .before .read-body .ensures) in
     record {
       answer = b .answer ∙ rw (sym (head-is h) ∙ g .heading2 .given .1);
-      cells = b .cells ∙ bytes-said _ _ _ _ _ _ _ _ _ _ (b .answer);
-      marks = b .marks ∙ hurts-said _ _ _ _ _ _ _ _ _ _ (b .answer);
+      cells = b .cells ∙ bytes-said _ _ _ _ _ _ _ _ _ _ _ (b .answer);
+      marks = b .marks ∙ hurts-said _ _ _ _ _ _ _ _ _ _ _ (b .answer);
     }
 
 pub read-on-spec : {M : Type 1} → statement M

@@ -29,10 +29,13 @@ returns c =
       answer = rw (sym (c .before .before .before .before .count .ensures) ∙ c .before .before .counted2 .given .1, lt-leb _ _ (c .if1 .taken));
     }
 
+frame-of-requires : tie.Need-frame-of-requires
+frame-of-requires c κs = search needs
+
 send-requires : tie.Need-send-requires
 send-requires c κs =
-    let k = countable (c .before .before .before) in
-    (k .settings, k .short, rw (← k .is) (search needs))
+    let k = countable (c .before .before .before .before) in
+    rw (c .before .frame-of .ensures) (k .settings, k .short, rw (← k .is) (search needs))
 
 returns-2 : tie.Need-returns-2
 unfolding codeOf
@@ -49,11 +52,12 @@ returns-3 : tie.Need-returns-3
 unfolding codeOf
 returns-3 c =
     let sent = c .before .before in
-    let told = sent .before .before .before .before in
+    let f = sent .before .before in
+    let told = f .before .before .before in
     let k = countable told in
     record {
-      cells = rw (← k .is) at (sent .send .ensures);
-      answer = rw (sym (told .before .before .count .ensures) ∙ told .counted2 .given .1, le-leb _ _ (sent .before .before .if1 .left));
+      cells = rw (f .frame-of .ensures, ← k .is) at (sent .send .ensures);
+      answer = rw (sym (told .before .before .count .ensures) ∙ told .counted2 .given .1, le-leb _ _ (f .before .if1 .left));
     }
 
 pub code-spec : {M : Type 1} → statement M
@@ -64,6 +68,7 @@ code-spec =
     enum-known-counted
     enum-known-counted-2
     returns
+    frame-of-requires
     send-requires
     returns-2
     same-length
