@@ -11,6 +11,9 @@ use Rattle.bits.specs.Bit.{asBit}
 use Rattle.bits.specs.Check.{check}
 use Rattle.lora.specs.Code.{symbolsAfter}
 use Rattle.lora.specs.Read.{bytesAfter, hurtsAfter}
+use Rattle.lora.specs.declared.Expected.{Expected}
+use Rattle.lora.specs.declared.Expected.the-variants.{Agreed as AsAgreed}
+use Rattle.lora.specs.declared.Kind.the-variants.{Explicit, Agreed}
 use Rattle.lora.specs.declared.Settings.{Settings}
 use Rattle.lora.specs.declared.Counted.{Counted}
 use Rattle.lora.specs.declared.Counted.the-variants.{Symbols, Refused as CountRefused}
@@ -25,8 +28,16 @@ use Rattle.lora.specs.declared.Received.the-variants.{Payload, Refused}
 abbrev pub flagOf : ℕ → Bool
 flagOf b = not (eqb b 0)
 
-abbrev pub settingsOf : ℕ → ℕ → ℕ → ℕ → Settings
-settingsOf sf low cr checked = record { sf = sf; low = flagOf low; cr = cr; checked = flagOf checked }
+-- settings with a header, and without one
+abbrev pub explicitOf : ℕ → ℕ → ℕ → ℕ → Settings
+explicitOf sf low cr checked = record { sf = sf; low = flagOf low; kind = Explicit cr (flagOf checked) }
+
+abbrev pub agreedOf : ℕ → ℕ → ℕ → ℕ → ℕ → Settings
+agreedOf sf low agreed cr checked = record { sf = sf; low = flagOf low; kind = Agreed agreed cr (flagOf checked) }
+
+-- what a reader without a header expects
+abbrev pub expectedOf : ℕ → ℕ → ℕ → Expected
+expectedOf agreed cr checked = AsAgreed agreed cr (flagOf checked)
 
 -- the number returned: 0 for an acceptance, else the refusal's
 abbrev pub codeOfCounted : Counted → ℕ
@@ -98,7 +109,7 @@ pub record CodeExported (a : Counted) (s : Settings) (payload lent out old new :
   pub symbols : Lent 1 old lent (symbolsAfter a s payload lent) out
 
 -- read's, with the lent bytes and the lent list of hurt symbols before and after
-pub record ReadExported (a : Received) (sf : ℕ) (low : Bool) (symbols lent out hurts hurts′ old new : List ℕ) (r : ℕ) : Type 0 where
+pub record ReadExported (a : Received) (sf : ℕ) (low : Bool) (expected : Expected) (symbols lent out hurts hurts′ old new : List ℕ) (r : ℕ) : Type 0 where
   pub is : Exported 6 (codeOfReceived a) (cellsOfReceived a) old new r
-  pub bytes : Lent 6 old lent (bytesAfter a sf low symbols lent) out
-  pub marks : Lent 6 old hurts (hurtsAfter a sf low symbols hurts) hurts′
+  pub bytes : Lent 6 old lent (bytesAfter a sf low expected symbols lent) out
+  pub marks : Lent 6 old hurts (hurtsAfter a sf low expected symbols hurts) hurts′

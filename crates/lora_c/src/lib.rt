@@ -1,5 +1,6 @@
-// The five operations for C and Rust. A flag is 0 for off, any other number for on. Each returns 0 for an acceptance, a
-// refusal's number with its place in answer[0], or 255 where `answer` has too few cells, and then nothing is written.
+// The five operations for C and Rust, of frames with a header; those of frames without one are in `agreed`. A flag is 0 for off, any
+// other number for on. Each returns 0 for an acceptance, a refusal's number with its place in answer[0], or 255 where `answer` has
+// too few cells, and then nothing is written.
 ghost use mathlib.Core.Path.{_≡_};
 ghost use Prim.Native.Nat.{_≤_};
 ghost use lib.ListN.{length};
@@ -9,12 +10,16 @@ ghost use Rattle.lora.specs.Code.{codeOf};
 ghost use Rattle.lora.specs.Count.{countOf};
 ghost use Rattle.lora.specs.Head.{headOf};
 ghost use Rattle.lora.specs.Read.{readOf};
-ghost use Rattle.lora_c.specs.Export.{flagOf, settingsOf, cellOf, front, CountExported, TimeExported, HeadExported, CodeExported, ReadExported};
+ghost use Rattle.lora.specs.declared.Expected.the-variants.{Explicit};
+ghost use Rattle.lora_c.specs.Export.{flagOf, explicitOf, cellOf, front, CountExported, TimeExported, HeadExported, CodeExported, ReadExported};
 
+mod agreed;
 mod day_file;
 
 use lora::Counted;
+use lora::Expected;
 use lora::Heading;
+use lora::Kind;
 use lora::Lasting;
 use lora::Received;
 use lora::Settings;
@@ -22,15 +27,17 @@ use lora::Settings;
 // Returned where `answer` has too few cells; no refusal has this number.
 const ANSWER_SHORT: u8 = 255;
 
-// Settings with both flags as numbers.
-fn settings_of(sf: u8, low: u8, cr: u8, checked: u8) -> Settings
-    ensures { λ r. ⌜ r ≡ settingsOf sf low cr checked ⌝ }
+// Settings with a header, both flags as numbers.
+fn explicit(sf: u8, low: u8, cr: u8, checked: u8) -> Settings
+    ensures { λ r. ⌜ r ≡ explicitOf sf low cr checked ⌝ }
 {
     Settings {
         sf,
         low: low != 0,
-        cr,
-        checked: checked != 0,
+        kind: Kind::Explicit {
+            cr,
+            checked: checked != 0,
+        },
     }
 }
 
@@ -62,22 +69,14 @@ fn put(answer: &mut [u64], cells: &[u64])
     }
 }
 
-// How many symbols a frame has. answer[0] on acceptance: the count.
-#[no_mangle]
-pub extern "C" fn lora_count(
-    sf: u8,
-    low: u8,
-    cr: u8,
-    checked: u8,
-    len: usize,
-    answer: &mut [u64],
-) -> u8
-    ensures { λ r. ⌜ CountExported (countOf (settingsOf sf low cr checked) len) (now (answer .entry)) (now (answer .exit)) r ⌝ }
+// Count's answer as a number and one cell.
+fn count_into(s: Settings, len: usize, answer: &mut [u64]) -> u8
+    ensures { λ r. ⌜ CountExported (countOf s len) (now (answer .entry)) (now (answer .exit)) r ⌝ }
 {
     if answer.len() < 1 {
         return ANSWER_SHORT;
     }
-    let counted = lora::count(settings_of(sf, low, cr, checked), len);
+    let counted = lora::count(s, len);
     match counted {
         Counted::Refused { number, place } => {
             put(answer, &[place as u64]);
@@ -88,6 +87,99 @@ pub extern "C" fn lora_count(
             0
         }
     }
+}
+
+// Airtime's answer as a number and one cell.
+fn airtime_into(s: Settings, len: usize, khz: u16, preamble: u16, answer: &mut [u64]) -> u8
+    ensures { λ r. ⌜ TimeExported (airtimeOf s len khz preamble) (now (answer .entry)) (now (answer .exit)) r ⌝ }
+{
+    if answer.len() < 1 {
+        return ANSWER_SHORT;
+    }
+    let lasting = lora::airtime(s, len, khz, preamble);
+    match lasting {
+        Lasting::Refused { number, place } => {
+            put(answer, &[place as u64]);
+            number
+        }
+        Lasting::Microseconds { time } => {
+            put(answer, &[time]);
+            0
+        }
+    }
+}
+
+// Code's answer as a number and one cell.
+fn code_into(s: Settings, payload: &[u8], out: &mut [u16], answer: &mut [u64]) -> u8
+    ensures { λ r. ⌜ CodeExported (codeOf s (now (payload .entry)) (length (now (out .entry)))) s (now (payload .entry)) (now (out .entry)) (now (out .exit)) (now (answer .entry)) (now (answer .exit)) r ⌝ }
+{
+    if answer.len() < 1 {
+        return ANSWER_SHORT;
+    }
+    let counted = lora::code(s, payload, out);
+    match counted {
+        Counted::Refused { number, place } => {
+            put(answer, &[place as u64]);
+            number
+        }
+        Counted::Symbols { count } => {
+            put(answer, &[count as u64]);
+            0
+        }
+    }
+}
+
+// Read's answer as a number and six cells.
+fn read_into(
+    sf: u8,
+    low: bool,
+    expected: Expected,
+    symbols: &[u16],
+    out: &mut [u8],
+    hurts: &mut [u8],
+    answer: &mut [u64],
+) -> u8
+    ensures { λ r. ⌜ ReadExported (readOf sf low expected (now (symbols .entry)) (length (now (out .entry))) (length (now (hurts .entry)))) sf low expected (now (symbols .entry)) (now (out .entry)) (now (out .exit)) (now (hurts .entry)) (now (hurts .exit)) (now (answer .entry)) (now (answer .exit)) r ⌝ }
+{
+    if answer.len() < 6 {
+        return ANSWER_SHORT;
+    }
+    let received = lora::read(sf, low, expected, symbols, out, hurts);
+    match received {
+        Received::Refused { number, place } => {
+            put(answer, &[place as u64]);
+            number
+        }
+        Received::Payload(a) => {
+            put(
+                answer,
+                &[
+                    a.length as u64,
+                    a.cr as u64,
+                    flag(a.checked),
+                    a.symbols as u64,
+                    a.repairs as u64,
+                    signed(a.drift),
+                ],
+            );
+            0
+        }
+    }
+}
+
+// How many symbols a frame has. answer[0] on acceptance: the count.
+#[no_mangle]
+pub extern "C" fn lora_count(
+    sf: u8,
+    low: u8,
+    cr: u8,
+    checked: u8,
+    len: usize,
+    answer: &mut [u64],
+) -> u8
+    ensures { λ r. ⌜ CountExported (countOf (explicitOf sf low cr checked) len) (now (answer .entry)) (now (answer .exit)) r ⌝ }
+{
+    count_into(explicit(sf, low, cr, checked), len, answer)
 }
 
 // A frame's time on air. answer[0] on acceptance: the microseconds.
@@ -102,22 +194,9 @@ pub extern "C" fn lora_airtime(
     preamble: u16,
     answer: &mut [u64],
 ) -> u8
-    ensures { λ r. ⌜ TimeExported (airtimeOf (settingsOf sf low cr checked) len khz preamble) (now (answer .entry)) (now (answer .exit)) r ⌝ }
+    ensures { λ r. ⌜ TimeExported (airtimeOf (explicitOf sf low cr checked) len khz preamble) (now (answer .entry)) (now (answer .exit)) r ⌝ }
 {
-    if answer.len() < 1 {
-        return ANSWER_SHORT;
-    }
-    let lasting = lora::airtime(settings_of(sf, low, cr, checked), len, khz, preamble);
-    match lasting {
-        Lasting::Refused { number, place } => {
-            put(answer, &[place as u64]);
-            number
-        }
-        Lasting::Microseconds { time } => {
-            put(answer, &[time]);
-            0
-        }
-    }
+    airtime_into(explicit(sf, low, cr, checked), len, khz, preamble, answer)
 }
 
 // Codes a payload into the lent list of symbols. answer[0] on acceptance: the count.
@@ -131,22 +210,9 @@ pub extern "C" fn lora_code(
     out: &mut [u16],
     answer: &mut [u64],
 ) -> u8
-    ensures { λ r. ⌜ CodeExported (codeOf (settingsOf sf low cr checked) (now (payload .entry)) (length (now (out .entry)))) (settingsOf sf low cr checked) (now (payload .entry)) (now (out .entry)) (now (out .exit)) (now (answer .entry)) (now (answer .exit)) r ⌝ }
+    ensures { λ r. ⌜ CodeExported (codeOf (explicitOf sf low cr checked) (now (payload .entry)) (length (now (out .entry)))) (explicitOf sf low cr checked) (now (payload .entry)) (now (out .entry)) (now (out .exit)) (now (answer .entry)) (now (answer .exit)) r ⌝ }
 {
-    if answer.len() < 1 {
-        return ANSWER_SHORT;
-    }
-    let counted = lora::code(settings_of(sf, low, cr, checked), payload, out);
-    match counted {
-        Counted::Refused { number, place } => {
-            put(answer, &[place as u64]);
-            number
-        }
-        Counted::Symbols { count } => {
-            put(answer, &[count as u64]);
-            0
-        }
-    }
+    code_into(explicit(sf, low, cr, checked), payload, out, answer)
 }
 
 // What a frame's header says. answer on acceptance: length, CR, checksum flag.
@@ -181,30 +247,15 @@ pub extern "C" fn lora_read(
     hurts: &mut [u8],
     answer: &mut [u64],
 ) -> u8
-    ensures { λ r. ⌜ ReadExported (readOf sf (flagOf low) (now (symbols .entry)) (length (now (out .entry))) (length (now (hurts .entry)))) sf (flagOf low) (now (symbols .entry)) (now (out .entry)) (now (out .exit)) (now (hurts .entry)) (now (hurts .exit)) (now (answer .entry)) (now (answer .exit)) r ⌝ }
+    ensures { λ r. ⌜ ReadExported (readOf sf (flagOf low) Explicit (now (symbols .entry)) (length (now (out .entry))) (length (now (hurts .entry)))) sf (flagOf low) Explicit (now (symbols .entry)) (now (out .entry)) (now (out .exit)) (now (hurts .entry)) (now (hurts .exit)) (now (answer .entry)) (now (answer .exit)) r ⌝ }
 {
-    if answer.len() < 6 {
-        return ANSWER_SHORT;
-    }
-    let received = lora::read(sf, low != 0, symbols, out, hurts);
-    match received {
-        Received::Refused { number, place } => {
-            put(answer, &[place as u64]);
-            number
-        }
-        Received::Payload(a) => {
-            put(
-                answer,
-                &[
-                    a.length as u64,
-                    a.cr as u64,
-                    flag(a.checked),
-                    a.symbols as u64,
-                    a.repairs as u64,
-                    signed(a.drift),
-                ],
-            );
-            0
-        }
-    }
+    read_into(
+        sf,
+        low != 0,
+        Expected::Explicit,
+        symbols,
+        out,
+        hurts,
+        answer,
+    )
 }

@@ -5,8 +5,8 @@ use mir.Syntax.{w8}
 use Rattle.lora_c.specs.Export.{cellOf}
 use Rattle.lora_c.proofs.FrontLaws.{short, enough, lent-short, lent-enough}
 use borrow.Author.Needs.{needs, sfits-of}
-use Rattle.lora_c.proofs.lora_read.Statement.{statement}
-use Rattle.lora_c.proofs.lora_read.Tie as tie
+use Rattle.lora_c.proofs.read_into.Statement.{statement}
+use Rattle.lora_c.proofs.read_into.Tie as tie
 
 returns : tie.Need-returns
 returns c = record { is = short (search needs); bytes = lent-short (search needs); marks = lent-short (search needs) }
@@ -26,8 +26,8 @@ put-requires c κs = search needs
 enum-known-received-2 : tie.Need-enum-known-received-2
 enum-known-received-2 c = search needs
 
-cast-t30 : tie.Need-cast-t30
-cast-t30 c = search needs
+cast-t31 : tie.Need-cast-t31
+cast-t31 c = search needs
 
 flag-requires : tie.Need-flag-requires
 flag-requires c κs = search needs
@@ -82,8 +82,8 @@ returns-3 c =
     rw (sym (k .read .ensures .answer) ∙ m .received2 .given .1)
     (record { is = enough h (rw (f .flag .ensures, drift) at (p .put2 .ensures)); bytes = lent-enough h (rw (m .received2 .given .1) at (k .read .ensures .cells)); marks = lent-enough h (rw (m .received2 .given .1) at (k .read .ensures .marks)) })
 
-pub lora-read-spec : {M : Type 1} → statement M
-lora-read-spec =
+pub read-into-spec : {M : Type 1} → statement M
+read-into-spec =
     tie.close
     (tie.spec
     returns
@@ -92,7 +92,7 @@ lora-read-spec =
     slice-aggregate-put
     put-requires
     enum-known-received-2
-    cast-t30
+    cast-t31
     flag-requires
     signed-requires
     slice-aggregate-put-2
