@@ -14,22 +14,22 @@ use Rattle.bits.proofs.Tabs.{over-cong}
 use Rattle.bits.proofs.Searches.{first-none, first-is, first-found, first-before, howMany-cong}
 use Rattle.layout.specs.Layout.{symbolsOf}
 use Rattle.lora.specs.Code.{sentNibble}
-use Rattle.lora.specs.Count.{frameOf}
-use Rattle.lora.specs.Read.{readOf, hurtFound, bytesAfter, hurtsAfter, Reading}
+use Rattle.lora.specs.Count.{expectedOf, frameOf}
+use Rattle.lora.specs.Read.{hurtFound, bytesAfter, hurtsAfter, Reading}
 use Rattle.lora.specs.declared.Settings.{Settings}
 use Rattle.lora.specs.declared.Received.{Received}
 use Rattle.lora.specs.declared.Received.the-variants.{Refused}
 use Rattle.reading.specs.Found.{foundAt, unreadableAt, repairedAt, nibbleAt, repairedIn, hurtAt}
 use Rattle.promises.specs.Damage.{readWords, changedIn, changedBySymbol, hurt, Returned, RefusedAt, ReturnedUnless}
 use Rattle.promises.proofs.Near.{Sent}
-use Rattle.promises.proofs.Outcome.{read-refused-in-header, read-refused, read-whole, cells-are}
+use Rattle.promises.proofs.Outcome.{read-refused, read-whole, cells-are}
 
 -- what a codeword is found to be: it can't be read exactly where the test holds, and else its nibble comes back, repaired exactly
 -- where it has a changed bit, and in the symbol that changed it
 pub record FoundAs (test : ℕ → Bool) (s : Settings) (payload arrived : List ℕ) (i : ℕ) : Type 0 where
   pub unreadable : unreadableAt (foundAt (frameOf s) arrived) i ≡ test i
   pub repaired : test i ≡ false → repairedAt (foundAt (frameOf s) arrived) i ≡ hurt s payload arrived i
-  pub nibble : test i ≡ false → nibbleAt (foundAt (frameOf s) arrived) i ≡ sentNibble s payload i
+  pub nibble : test i ≡ false → nibbleAt (foundAt (frameOf s) arrived) i ≡ sentNibble (frameOf s) payload i
   pub marks : test i ≡ false → (t : ℕ) → repairedIn (frameOf s) arrived t i ≡ changedIn s payload arrived t i
 
 module _ (test : ℕ → Bool) (s : Settings) (payload arrived old new hurts hurts′ : List ℕ) (answer : Received) (p : Sent s payload)
@@ -37,10 +37,10 @@ module _ (test : ℕ → Bool) (s : Settings) (payload arrived old new hurts hur
     (below : (t : ℕ) → t < symbolsOf (frameOf s) (length payload) → getD arrived t 0 < 2 ^ (s .sf))
     (fits : length payload ≤ length old)
     (lists : symbolsOf (frameOf s) (length payload) ≤ length hurts)
-    (reading : Reading (s .sf) (s .low) arrived old new hurts hurts′ answer)
+    (reading : Reading (s .sf) (s .low) (expectedOf (s .kind)) arrived old new hurts hurts′ answer)
     (each : (i : ℕ) → i < readWords s payload → FoundAs test s payload arrived i) where
   good : (i : ℕ) → i < readWords s payload → unreadableAt (foundAt (frameOf s) arrived) i ≡ false
-      → nibbleAt (foundAt (frameOf s) arrived) i ≡ sentNibble s payload i
+      → nibbleAt (foundAt (frameOf s) arrived) i ≡ sentNibble (frameOf s) payload i
   good i h e = each i h .nibble (sym (each i h .unreadable) ∙ e)
 
   -- each symbol's repairs are the codewords in which it changed a bit
@@ -59,29 +59,21 @@ module _ (test : ℕ → Bool) (s : Settings) (payload arrived old new hurts hur
       let says = reading .answer ∙ read-whole s payload arrived p enough below good all (length old) (length hurts) fits lists in
       record {
         says = rw repairs at says;
-        cells = reading .cells ∙ ap (λ (r : Received). bytesAfter r (s .sf) (s .low) arrived old) says ∙ cells-are s payload arrived p enough below good all old;
-        marks = reading .marks ∙ ap (λ (r : Received). hurtsAfter r (s .sf) (s .low) arrived hurts) says ∙ marks-are none;
+        cells = reading .cells ∙ ap (λ (r : Received). bytesAfter r (s .sf) (s .low) (expectedOf (s .kind)) arrived old) says ∙ cells-are s payload arrived p enough below good all old;
+        marks = reading .marks ∙ ap (λ (r : Received). hurtsAfter r (s .sf) (s .low) (expectedOf (s .kind)) arrived hurts) says ∙ marks-are none;
       }
 
   refused : (i : ℕ) → i < readWords s payload → test i ≡ true → ((k : ℕ) → k < i → test k ≡ false) → RefusedAt i old new hurts hurts′ answer
   refused i h holds before =
       let at : first (unreadableAt (foundAt (frameOf s) arrived)) (readWords s payload) 0 ≡ i
       = first-is _ (readWords s payload) 0 i (omega arith) (omega arith) (each i h .unreadable ∙ holds) (λ k a b. each k (omega arith) .unreadable ∙ before k b) in
-      let says : answer ≡ Refused 7 i = reading .answer ∙ by (ltb i 5) refl at in
+      let says : answer ≡ Refused 7 i
+      = reading .answer ∙ rw at at (read-refused s payload arrived p enough below good (length old) (length hurts) fits lists (rw at h)) in
       record {
         says = says;
-        cells = reading .cells ∙ ap (λ (r : Received). bytesAfter r (s .sf) (s .low) arrived old) says;
-        marks = reading .marks ∙ ap (λ (r : Received). hurtsAfter r (s .sf) (s .low) arrived hurts) says;
+        cells = reading .cells ∙ ap (λ (r : Received). bytesAfter r (s .sf) (s .low) (expectedOf (s .kind)) arrived old) says;
+        marks = reading .marks ∙ ap (λ (r : Received). hurtsAfter r (s .sf) (s .low) (expectedOf (s .kind)) arrived hurts) says;
       }
-    where
-      by : (t : Bool) → ltb i 5 ≡ t → first (unreadableAt (foundAt (frameOf s) arrived)) (readWords s payload) 0 ≡ i
-          → readOf (s .sf) (s .low) arrived (length old) (length hurts) ≡ Refused 7 i
-      by true e at =
-          let l : i < 5 = ltb-true i 5 e in
-          rw at at (read-refused-in-header s payload arrived p enough below good (length old) (length hurts) fits lists (rw at l))
-      by false e at =
-          let l : 5 ≤ i = ltb-false i 5 e in
-          rw at at (read-refused s payload arrived p enough below good (length old) (length hurts) fits lists (rw at l) (rw at h))
 
   pub answered : ReturnedUnless test s payload arrived (symbolsOf (frameOf s) (length payload)) old new hurts hurts′ answer
   answered = record { decided = by (ltb at (readWords s payload)) refl }

@@ -18,9 +18,12 @@ use Rattle.layout.specs.Layout.{validSf, validCr, dataNibbles, nibblesOf, symbo
 use Rattle.layout.specs.declared.Frame.{Frame}
 use Rattle.lora.specs.Airtime.{validBandwidth, lasting, airtimeOf}
 use Rattle.lora.specs.Code.{fitting, codeOf}
-use Rattle.lora.specs.Count.{frameOf, countOf}
+use Rattle.lora.specs.Count.{crOf, frameOf, takes, countOf}
 use Rattle.lora.specs.Head.{headerFound, unreadableInHeader, said, headOf}
-use Rattle.lora.specs.Read.{unreadableInData, bodyOf, frameSaid, onward, readOf}
+use Rattle.lora.specs.Read.{unreadableInData, bodyOf, frameSaid, onward, agreedOn, readOf}
+use Rattle.lora.specs.declared.Expected.{Expected}
+use Rattle.lora.specs.declared.Expected.the-variants.{Explicit, Agreed}
+use Rattle.lora.specs.declared.Kind.the-variants as kind
 use Rattle.lora.specs.declared.Settings.{Settings}
 use Rattle.lora.specs.declared.Counted.{Counted}
 use Rattle.lora.specs.declared.Counted.the-variants.{Symbols, Refused as CountRefused}
@@ -56,7 +59,7 @@ module _ (numbers : List ℕ) where
 -- count's numbers are 1, 2 and 3; airtime and code have one more each
 pub count-among : (more : List ℕ) (s : Settings) (len : ℕ) → CountGives (1 ∷ 2 ∷ 3 ∷ more) (countOf s len)
 unfolding countOf oneOf
-count-among more s len = by (validSf (s .sf)) (validCr (s .cr)) (leb len 255)
+count-among more s len = by (validSf (s .sf)) (validCr (crOf (s .kind))) (takes (s .kind) len)
   where
     by : (a b c : Bool)
         → CountGives (1 ∷ 2 ∷ 3 ∷ more) (check a (CountRefused 1 0) (check b (CountRefused 2 0) (check c (CountRefused 3 0) (Symbols (symbolsOf (frameOf s) len)))))
@@ -98,30 +101,42 @@ said-among numbers nine ten eleven nibbles = by (checksHold nibbles) (zerosHold 
     by true false c = ten
     by false b c = nine
 
--- head's are 1, 5, 6, 7 and the header's; read has 4 and 12 besides
+-- head's are 1, 5, 6, 7 and the header's; read has 4 and 12 besides, and without a header count's, 4, 5, 6, 7 and 12
 abbrev heads : List ℕ → List ℕ
 heads more = 1 ∷ 5 ∷ 6 ∷ 7 ∷ 9 ∷ 10 ∷ 11 ∷ more
 
-abbrev reads : List ℕ
-reads = heads (4 ∷ 12 ∷ [])
+abbrev reads : Expected → List ℕ
+reads Explicit = heads (4 ∷ 12 ∷ [])
+reads (Agreed agreed cr flag) = 1 ∷ 2 ∷ 3 ∷ 4 ∷ 5 ∷ 6 ∷ 7 ∷ 12 ∷ []
 
 pub head-among : (more : List ℕ) (sf : ℕ) (symbols : List ℕ) → HeadGives (heads more) (headOf sf symbols)
 unfolding oneOf
 head-among more sf symbols =
     head-cases sf symbols (HeadGives (heads more)) refl refl refl (λ low l. refl)
-    (λ low high none. said-among (heads more) refl refl refl (tab 5 (nibbleAt (headerFound sf symbols))))
+    (λ low high. said-among (heads more) refl refl refl (tab 5 (nibbleAt (headerFound sf symbols))))
 
-body-among : (F : Frame) (symbols : List ℕ) (room marks len : ℕ) → ReadGives reads (bodyOf F symbols room marks len)
+body-among : (expected : Expected) (F : Frame) (symbols : List ℕ) (room marks len : ℕ) → ReadGives (reads expected) (bodyOf F symbols room marks len)
 unfolding oneOf
-body-among F symbols room marks len = body-cases F symbols room marks len (ReadGives reads) refl refl refl refl (λ l. refl) refl (λ fits lists. tt)
+body-among Explicit F symbols room marks len =
+    body-cases F symbols room marks len (ReadGives (reads Explicit)) refl refl refl refl (λ l. refl) refl (λ fits lists over. tt)
+body-among (Agreed agreed cr flag) F symbols room marks len =
+    body-cases F symbols room marks len (ReadGives (reads (Agreed agreed cr flag))) refl refl refl refl (λ l. refl) refl (λ fits lists over. tt)
 
-pub read-among : (sf : ℕ) (low : Bool) (symbols : List ℕ) (room marks : ℕ) → ReadGives reads (readOf sf low symbols room marks)
+pub read-among : (sf : ℕ) (low : Bool) (expected : Expected) (symbols : List ℕ) (room marks : ℕ) → ReadGives (reads expected) (readOf sf low expected symbols room marks)
 unfolding readOf
-read-among sf low symbols room marks = by (headOf sf symbols) (head-among (4 ∷ 12 ∷ []) sf symbols)
+read-among sf low Explicit symbols room marks = by (headOf sf symbols) (head-among (4 ∷ 12 ∷ []) sf symbols)
   where
-    by : (h : Heading) → HeadGives reads h → ReadGives reads (onward h sf low symbols room marks)
+    by : (h : Heading) → HeadGives (reads Explicit) h → ReadGives (reads Explicit) (onward h sf low symbols room marks)
     by (HeadRefused number place) g = g
-    by (Says h) g = body-among (frameSaid sf low (h .cr) (h .checked)) symbols room marks (h .length)
+    by (Says h) g = body-among Explicit (frameSaid sf low Explicit (h .cr) (h .checked)) symbols room marks (h .length)
+read-among sf low (Agreed len cr flag) symbols room marks = by (countOf s len) (count-among (4 ∷ 5 ∷ 6 ∷ 7 ∷ 12 ∷ []) s len)
+  where
+    s : Settings
+    s = record { sf = sf; low = low; kind = kind.Agreed len cr flag }
+
+    by : (n : Counted) → CountGives (reads (Agreed len cr flag)) n → ReadGives (reads (Agreed len cr flag)) (agreedOn n (frameOf s) len symbols room marks)
+    by (CountRefused number place) g = g
+    by (Symbols count) g = body-among (Agreed len cr flag) (frameOf s) symbols room marks len
 
 -- a word of 4/7 can be read
 pub found-at : (cr w : ℕ) → cr ≡ 3 → w < 2 ^ (4 + cr) → isUnreadable (readAs cr w) ≡ false
@@ -136,7 +151,7 @@ head-seven sf symbols place =
     (λ e. absurd (let z : _≡_ {A = ℕ} 5 7 = cc in omega arith))
     (λ e. absurd (let z : _≡_ {A = ℕ} 6 7 = cc in omega arith))
     (λ low l e. let same : unreadableInHeader (headerFound sf symbols) ≡ place = cc in omega arith)
-    (λ low high none e. absurd (true≢false (sym (rw e at (said-among (9 ∷ 10 ∷ 11 ∷ []) refl refl refl (tab 5 (nibbleAt (headerFound sf symbols))))))))
+    (λ low high e. absurd (true≢false (sym (rw e at (said-among (9 ∷ 10 ∷ 11 ∷ []) refl refl refl (tab 5 (nibbleAt (headerFound sf symbols))))))))
 
 -- and behind the header at a data codeword that can't be read
 pub body-seven : (F : Frame) (symbols : List ℕ) (room marks len place : ℕ) → bodyOf F symbols room marks len ≡ Refused 7 place → unreadableAt (foundAt F symbols) place ≡ true
@@ -150,4 +165,4 @@ body-seven F symbols room marks len place =
     (λ l e. let same : unreadableInData F symbols len ≡ place = cc in
     rw (← same) (first-found (unreadableAt (foundAt F symbols)) (dataNibbles len (F .checked)) (F .header) l))
     (λ e. absurd (let z : _≡_ {A = ℕ} 12 7 = cc in omega arith))
-    (λ fits lists e. absurd (let z : _≡_ {A = ℕ} 0 1 = cc in omega arith))
+    (λ fits lists over e. absurd (let z : _≡_ {A = ℕ} 0 1 = cc in omega arith))

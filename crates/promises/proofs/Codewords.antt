@@ -14,7 +14,7 @@ use Rattle.codeword.specs.Found.{Found, Unreadable}
 use Rattle.layout.specs.Layout.{blockOfCodeword, symbolsOf}
 use Rattle.layout.proofs.LayoutLaws.{block-of-read}
 use Rattle.lora.specs.Code.{sentNibble, sentSymbol, Coding}
-use Rattle.lora.specs.Count.{frameOf}
+use Rattle.lora.specs.Count.{crOf, frameOf}
 use Rattle.lora.specs.declared.Settings.{Settings}
 use Rattle.lora.specs.declared.Counted.the-variants.{Symbols}
 use Rattle.lora.specs.declared.Received.{Received}
@@ -26,8 +26,8 @@ use Rattle.promises.proofs.Answers.{FoundAs, answered}
 
 -- the cells that code wrote are the frame
 pub frame-cells : (s : Settings) (payload old sent : List ℕ) (count : ℕ) → Coding s payload old sent (Symbols count)
-    → (t : ℕ) → t < count → getD sent t 0 ≡ sentSymbol s payload t
-frame-cells s payload old sent count c t h = rw (c .cells) (getD-over count (sentSymbol s payload) old t 0 h)
+    → (t : ℕ) → t < count → getD sent t 0 ≡ sentSymbol (frameOf s) payload t
+frame-cells s payload old sent count c t h = rw (c .cells) (getD-over count (sentSymbol (frameOf s) payload) old t 0 h)
 
 -- a number that is at most 2 is 0, 1 or 2
 pub by-bits : {A : Type 0} (n : ℕ) → n ≤ 2 → (n ≡ 0 → A) → (n ≡ 1 → A) → (n ≡ 2 → A) → A
@@ -63,7 +63,7 @@ module _ {s : Settings} {payload old sent : List ℕ} {count : ℕ} {arrived buf
   pub sender : Sent s payload
   sender =
       let k = coded s payload (length old) count (sym (c .coded .answer)) .0 in
-      record { valid = k .settings; short = k .short; bytes = c .bytes }
+      record { valid = k .settings; short = k .short; counted = k .said ∙ ap Symbols (k .is); bytes = c .bytes }
 
   pub counts : count ≡ symbolsOf (frameOf s) (length payload)
   counts = coded s payload (length old) count (sym (c .coded .answer)) .0 .is
@@ -81,7 +81,7 @@ module _ {s : Settings} {payload old sent : List ℕ} {count : ℕ} {arrived buf
       )
 
   -- the rate at which codeword i is read
-  pub by-rate : {A : Type 0} (i : ℕ) → (i < s .sf - 2 → blockFor s i .rate ≡ 4 → A) → (s .sf - 2 ≤ i → blockFor s i .rate ≡ s .cr → A) → A
+  pub by-rate : {A : Type 0} (i : ℕ) → (i < s .sf - 2 → blockFor s i .rate ≡ 4 → A) → (s .sf - 2 ≤ i → blockFor s i .rate ≡ crOf (s .kind) → A) → A
   by-rate {A = A} i a b = at (leb (s .sf - 2) i) refl
     where
       at : (t : Bool) → leb (s .sf - 2) i ≡ t → A
@@ -98,7 +98,7 @@ module _ {s : Settings} {payload old sent : List ℕ} {count : ℕ} {arrived buf
   module _ (test : ℕ → Bool) (i : ℕ) where
     -- a codeword whose nibble comes back, repaired where it has a changed bit
     read-back : {found : Found} → foundAt (frameOf s) arrived i ≡ found → test i ≡ false → isUnreadable found ≡ false → isRepaired found ≡ hurt s payload arrived i
-        → nibbleOf found ≡ sentNibble s payload i → ((t : ℕ) → repairedIn (frameOf s) arrived t i ≡ changedIn s payload arrived t i)
+        → nibbleOf found ≡ sentNibble (frameOf s) payload i → ((t : ℕ) → repairedIn (frameOf s) arrived t i ≡ changedIn s payload arrived t i)
         → FoundAs test s payload arrived i
     read-back e f unreadable repaired nibble marks =
         record {

@@ -10,6 +10,7 @@ use Rattle.bits.proofs.Tabs.{length-over, getD-over-rest}
 use Rattle.lora.specs.Code.{Coding}
 use Rattle.lora.specs.Read.{Reading}
 use Rattle.lora.specs.declared.Accepted.{Accepted}
+use Rattle.lora.specs.declared.Expected.{Expected}
 use Rattle.lora.specs.declared.Settings.{Settings}
 use Rattle.lora.specs.declared.Counted.the-variants.{Symbols, Refused as CountRefused}
 use Rattle.lora.specs.declared.Received.the-variants.{Payload, Refused}
@@ -29,7 +30,7 @@ kept n f old room e = record { long = ap length e ∙ length-over n f old room; 
 pub code-refused : {s : Settings} {payload old new : List ℕ} {number place : ℕ} → Coding s payload old new (CountRefused number place) → new ≡ old
 code-refused c = c .cells
 
-pub read-refused : {sf : ℕ} {low : Bool} {symbols old new hurts hurts′ : List ℕ} {number place : ℕ} → Reading sf low symbols old new hurts hurts′ (Refused number place)
+pub read-refused : {sf : ℕ} {low : Bool} {expected : Expected} {symbols old new hurts hurts′ : List ℕ} {number place : ℕ} → Reading sf low expected symbols old new hurts hurts′ (Refused number place)
     → (new ≡ old) × (hurts′ ≡ hurts)
 read-refused c = (c .cells, c .marks)
 
@@ -37,8 +38,8 @@ read-refused c = (c .cells, c .marks)
 pub code-accepted : {s : Settings} {payload old new : List ℕ} {count : ℕ} → Coding s payload old new (Symbols count) → KeptFrom count old new
 code-accepted {s} {payload} {old} {new} {count} c = kept count _ old (coded s payload (length old) count (sym (c .answer)) .1) (c .cells)
 
-pub read-accepted : {sf : ℕ} {low : Bool} {symbols old new hurts hurts′ : List ℕ} {a : Accepted} → Reading sf low symbols old new hurts hurts′ (Payload a)
+pub read-accepted : {sf : ℕ} {low : Bool} {expected : Expected} {symbols old new hurts hurts′ : List ℕ} {a : Accepted} → Reading sf low expected symbols old new hurts hurts′ (Payload a)
     → KeptFrom (a .length) old new × KeptFrom (a .symbols) hurts hurts′
-read-accepted {sf} {low} {symbols} {old} {new} {hurts} {hurts′} {a} c =
-    let k = accepts sf low symbols (length old) (length hurts) a (sym (c .answer)) in
+read-accepted {sf} {low} {expected} {symbols} {old} {new} {hurts} {hurts′} {a} c =
+    let k = accepts sf low expected symbols (length old) (length hurts) a (sym (c .answer)) in
     (kept (a .length) _ old (k .fits) (c .cells), kept (a .symbols) _ hurts (k .lists) (c .marks))

@@ -9,6 +9,7 @@ use Rattle.lora.specs.Code.{symbolsAfter, Coding}
 use Rattle.lora.specs.Count.{countOf}
 use Rattle.lora.specs.Head.{headOf}
 use Rattle.lora.specs.Read.{bytesAfter, hurtsAfter, Reading}
+use Rattle.lora.specs.declared.Expected.{Expected}
 use Rattle.lora.specs.declared.Settings.{Settings}
 use Rattle.lora.specs.declared.Counted.{Counted}
 use Rattle.lora.specs.declared.Lasting.{Lasting}
@@ -30,11 +31,11 @@ code-determined s payload old new new′ r r′ p q =
     let same : r ≡ r′ = p .answer ∙ sym (q .answer) in
     (same, p .cells ∙ ap (λ (x : Counted). symbolsAfter x s payload old) same ∙ sym (q .cells))
 
-pub read-determined : (sf : ℕ) (low : Bool) (symbols old new new′ hurts marks marks′ : List ℕ) (r r′ : Received)
-    → Reading sf low symbols old new hurts marks r → Reading sf low symbols old new′ hurts marks′ r′ → (r ≡ r′) × (new ≡ new′) × (marks ≡ marks′)
-read-determined sf low symbols old new new′ hurts marks marks′ r r′ p q =
+pub read-determined : (sf : ℕ) (low : Bool) (expected : Expected) (symbols old new new′ hurts marks marks′ : List ℕ) (r r′ : Received)
+    → Reading sf low expected symbols old new hurts marks r → Reading sf low expected symbols old new′ hurts marks′ r′ → (r ≡ r′) × (new ≡ new′) × (marks ≡ marks′)
+read-determined sf low expected symbols old new new′ hurts marks marks′ r r′ p q =
     let same : r ≡ r′ = p .answer ∙ sym (q .answer) in (
       same,
-      p .cells ∙ ap (λ (x : Received). bytesAfter x sf low symbols old) same ∙ sym (q .cells),
-      p .marks ∙ ap (λ (x : Received). hurtsAfter x sf low symbols hurts) same ∙ sym (q .marks),
+      p .cells ∙ ap (λ (x : Received). bytesAfter x sf low expected symbols old) same ∙ sym (q .cells),
+      p .marks ∙ ap (λ (x : Received). hurtsAfter x sf low expected symbols hurts) same ∙ sym (q .marks),
     )

@@ -22,8 +22,9 @@ use Rattle.layout.specs.declared.Block.{Block}
 use Rattle.layout.specs.declared.Frame.{Frame}
 use Rattle.layout.proofs.LayoutLaws.{symbol-in, symbols-below, symbols-ge}
 use Rattle.lora.specs.Code.{sentNibble, sentSymbol, Coding}
-use Rattle.lora.specs.Count.{frameOf}
-use Rattle.lora.specs.Read.{acceptedOf, Reading}
+use Rattle.lora.specs.Count.{crOf, checkedOf, expectedOf, frameOf}
+use Rattle.lora.specs.Read.{frameSaid, acceptedOf, Reading}
+use Rattle.lora.specs.declared.Expected.{Expected}
 use Rattle.lora.specs.declared.Accepted.{Accepted}
 use Rattle.lora.specs.declared.Settings.{Settings}
 use Rattle.lora.specs.declared.Counted.the-variants.{Symbols}
@@ -31,7 +32,6 @@ use Rattle.lora.specs.declared.Received.{Received}
 use Rattle.lora.specs.declared.Received.the-variants.{Payload}
 use Rattle.lora.proofs.AnswerLaws.{accepts}
 use Rattle.lora.proofs.CountLaws.{coded}
-use Rattle.lora.proofs.HeadLaws.{head-sound}
 use Rattle.promises.specs.Damage.{readWords, blockAt, valueIn, changedValues, changedBits, changedIn, changedBySymbol, FewValues, Passed, hurt}
 use Rattle.promises.specs.Drifted.{isSpaced, Drifted, IsDrift}
 use Rattle.promises.proofs.Answers.{never}
@@ -57,7 +57,7 @@ sent-spaced : {s : Settings} {payload old sent : List ℕ} {count : ℕ} → Cod
 unfolding isSpaced blockAt sentSymbol symbolAt symbolInBlock
 sent-spaced {s} {payload} {old} {sent} {count} c t h spaced =
     let B : Block = blockOf (frameOf s) (blockOfSymbol (frameOf s) t) in (
-      codewordInBlock B (sentNibble s payload),
+      codewordInBlock B (sentNibble (frameOf s) payload),
       t - B .symbol,
       frame-cells s payload old sent count c t h ∙ rw (spaced, spaced-rows (frameOf s) (blockOfSymbol (frameOf s) t) spaced),
     )
@@ -131,14 +131,14 @@ module _ {d : ℕ → ℤ} {s : Settings} {payload old sent : List ℕ} {count :
   unfolding repairedIn
   unchanged i t e = sym (marks-none s payload arrived (sender p) i t e) ∙ rw (found-none s payload arrived (sender p) i e)
 
-  read-clean : (answer ≡ Payload (record { length = length payload; cr = s .cr; checked = s .checked; symbols = count; repairs = 0; drift = d 0 }))
+  read-clean : (answer ≡ Payload (record { length = length payload; cr = crOf (s .kind); checked = checkedOf (s .kind); symbols = count; repairs = 0; drift = d 0 }))
       × (buffer′ ≡ payload ++ drop (length payload) buffer) × (hurts′ ≡ over count (λ _. 0) hurts)
   unfolding changedBySymbol
   read-clean =
       let r = never (answered-by p (λ _. false) (λ i h. clean p _ i refl (none i h))) in
       let repairs = howMany-none (hurt s payload arrived) (readWords s payload) (λ i h. hurt-none s payload arrived i (none i h)) in
       let says : ℕ → ℤ → Received
-      = λ n x. Payload (record { length = length payload; cr = s .cr; checked = s .checked; symbols = count; repairs = n; drift = x }) in
+      = λ n x. Payload (record { length = length payload; cr = crOf (s .kind); checked = checkedOf (s .kind); symbols = count; repairs = n; drift = x }) in
       let unhurt = over-cong count _ (λ _. 0) hurts (λ t l. howMany-none (changedIn s payload arrived t) (readWords s payload) (λ i h. unchanged i t (none i h))) in
       (r .says ∙ ap₂ says repairs first-drift, r .cells, r .marks ∙ unhurt)
 
@@ -151,8 +151,8 @@ pub drifted : (d : ℕ → ℤ) (s : Settings) (payload old sent : List ℕ) (co
     → Drifted d s sent count arrived
     → length payload ≤ length buffer
     → count ≤ length hurts
-    → Reading (s .sf) (s .low) arrived buffer buffer′ hurts hurts′ answer
-    → (answer ≡ Payload (record { length = length payload; cr = s .cr; checked = s .checked; symbols = count; repairs = 0; drift = d 0 }))
+    → Reading (s .sf) (s .low) (expectedOf (s .kind)) arrived buffer buffer′ hurts hurts′ answer
+    → (answer ≡ Payload (record { length = length payload; cr = crOf (s .kind); checked = checkedOf (s .kind); symbols = count; repairs = 0; drift = d 0 }))
     × (buffer′ ≡ payload ++ drop (length payload) buffer)
     × (hurts′ ≡ over count (λ _. 0) hurts)
 drifted d s payload old sent count arrived buffer buffer′ hurts hurts′ answer bytes c enough near room lists read =
@@ -183,10 +183,11 @@ unfolding markOf driftOf distance stepsUp numberOfValue valueOfNumber
 rows = (refl, refl)
 
 -- Every accepted frame is answered with the drift of its first symbol.
-pub accepted-drift : (sf : ℕ) (low : Bool) (symbols old new hurts hurts′ : List ℕ) (a : Accepted) → Reading sf low symbols old new hurts hurts′ (Payload a)
+pub accepted-drift : (sf : ℕ) (low : Bool) (expected : Expected) (symbols old new hurts hurts′ : List ℕ) (a : Accepted) → Reading sf low expected symbols old new hurts hurts′ (Payload a)
     → (7 ≤ sf) × (getD symbols 0 0 < 2 ^ sf) × (a .drift ≡ driftOf sf (getD symbols 0 0))
 unfolding acceptedOf
-accepted-drift sf low symbols old new hurts hurts′ a r =
-    let k = accepts sf low symbols (length old) (length hurts) a (sym (r .answer)) in
-    let h = head-sound sf symbols _ (k .head) in
-    (h .sf-low, h .starts 0 (omega arith), ap (λ (x : Accepted). x .drift) (k .is))
+accepted-drift sf low expected symbols old new hurts hurts′ a r =
+    let k = accepts sf low expected symbols (length old) (length hurts) a (sym (r .answer)) in
+    let used : a .symbols ≡ symbolsOf (frameSaid sf low expected (a .cr) (a .checked)) (a .length) = ap (λ (x : Accepted). x .symbols) (k .is) in
+    let eight = symbols-ge (frameSaid sf low expected (a .cr) (a .checked)) (a .length) in
+    (k .valid .sf-low, k .below 0 (omega (arith, used, eight)), ap (λ (x : Accepted). x .drift) (k .is))

@@ -16,8 +16,9 @@ use Rattle.coding.specs.Nibbles.{dataByte, halfOf, nibbleOfBytes, dataNibble, b
 use Rattle.coding.specs.Symbols.{codewordInBlock, symbolInBlock, symbolAt}
 use Rattle.header.specs.Header.{withChecks, headerNibbles}
 use Rattle.layout.specs.Layout.{validSf, validCr, rowsOfFirst, rowsOfLater, firstBlock, blockOf, blockOfSymbol, dataNibbles, nibblesOf, remaining, laterBlocks, symbolCount, symbolsOf}
-use Rattle.lora.specs.Code.{sentNibble, sentSymbol, codeOf, symbolsAfter}
-use Rattle.lora.specs.Count.{countOf}
+use Rattle.lora.specs.Code.{headerSent, sentNibble, sentSymbol, codeOf, symbolsAfter}
+use Rattle.lora.specs.Count.{takes, countOf}
+use Rattle.lora.specs.declared.Kind.the-variants.{Explicit}
 use Rattle.lora.specs.declared.Settings.{Settings}
 use Rattle.whitening.specs.Whitening.{next, whitening}
 
@@ -36,7 +37,7 @@ wants (r ∷ rs) = r .wanted ∷ wants rs
 
 -- SF 7, CR 1, checksum flag off
 pub smallest : Settings
-smallest = record { sf = 7; low = false; cr = 1; checked = false }
+smallest = record { sf = 7; low = false; kind = Explicit 1 false }
 
 -- byte p that follows a payload, with its checksum on
 pub sentByte : List ℕ → ℕ → ℕ
@@ -60,5 +61,5 @@ rows =
 
 -- what our definitions give is what document 01 wants, in every row
 pub examples : givens rows ≡ wants rows
-unfolding givens wants rows smallest sentByte tab blank bit number parity parityOfAll parityBit codewordBit codeword next whitening divisor reduced oneBit lowBits oneByte remainder checksum dataByte halfOf dataNibble nibbleOfBytes bodyNibble nibbleWith frameNibble withChecks headerNibbles ones valueOfWord numberOfValue wordOfCodewords symbolOfCodewords codewordInBlock symbolInBlock symbolAt validSf validCr rowsOfFirst rowsOfLater firstBlock blockOf blockOfSymbol dataNibbles remaining laterBlocks symbolCount sentNibble sentSymbol codeOf nibblesOf symbolsOf countOf
+unfolding givens wants rows smallest sentByte tab blank bit number parity parityOfAll parityBit codewordBit codeword next whitening divisor reduced oneBit lowBits oneByte remainder checksum dataByte halfOf dataNibble nibbleOfBytes bodyNibble nibbleWith frameNibble withChecks headerNibbles ones valueOfWord numberOfValue wordOfCodewords symbolOfCodewords codewordInBlock symbolInBlock symbolAt validSf validCr rowsOfFirst rowsOfLater firstBlock blockOf blockOfSymbol dataNibbles remaining laterBlocks symbolCount headerSent sentNibble sentSymbol codeOf nibblesOf symbolsOf takes countOf
 examples = refl

@@ -4,6 +4,7 @@ use mathlib.Core.Path.{_≡_, sym, _∙_}
 use mathlib.Core.Bool.{Bool}
 use mathlib.Core.List.{List}
 use Prim.Native.Nat.{ℕ}
+use Rattle.lora.specs.declared.Expected.{Expected}
 use Rattle.lora.specs.declared.Settings.{Settings}
 use Rattle.lora.specs.declared.Counted.{Counted}
 use Rattle.lora.specs.declared.Lasting.{Lasting}
@@ -39,8 +40,8 @@ pub code-exported : {a : Counted} {s : Settings} {payload kept out out′ old ne
     → CodeExported a s payload kept out old new r → CodeExported a s payload kept out′ old new′ r′ → Same r r′ new new′ × (out ≡ out′)
 code-exported p q = (exported (p .is) (q .is), lent (p .symbols) (q .symbols))
 
-pub read-exported : {a : Received} {sf : ℕ} {low : Bool} {symbols kept out out′ hurts marks marks′ old new new′ : List ℕ} {r r′ : ℕ}
-    → ReadExported a sf low symbols kept out hurts marks old new r → ReadExported a sf low symbols kept out′ hurts marks′ old new′ r′
+pub read-exported : {a : Received} {sf : ℕ} {low : Bool} {expected : Expected} {symbols kept out out′ hurts marks marks′ old new new′ : List ℕ} {r r′ : ℕ}
+    → ReadExported a sf low expected symbols kept out hurts marks old new r → ReadExported a sf low expected symbols kept out′ hurts marks′ old new′ r′
     → Same r r′ new new′ × (out ≡ out′) × (marks ≡ marks′)
 read-exported p q = (exported (p .is) (q .is), lent (p .bytes) (q .bytes), lent (p .marks) (q .marks))
 

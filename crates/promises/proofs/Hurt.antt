@@ -24,13 +24,14 @@ use Rattle.layout.specs.Layout.{blockOfCodeword, nibblesOf, symbolsOf}
 use Rattle.layout.specs.Ranges.{Valid}
 use Rattle.layout.specs.declared.Frame.{Frame}
 use Rattle.layout.proofs.LayoutLaws.{block-of-read, symbols-below}
+use Rattle.lora.specs.Count.{crOf}
 use Rattle.lora.specs.Read.{repairsOf, hurtFound, acceptedOf, frameSaid, Reading}
 use Rattle.lora.specs.declared.Accepted.{Accepted}
+use Rattle.lora.specs.declared.Expected.{Expected}
 use Rattle.lora.specs.declared.Settings.{Settings}
 use Rattle.lora.specs.declared.Received.{Received}
 use Rattle.lora.specs.declared.Received.the-variants.{Payload}
 use Rattle.lora.proofs.AnswerLaws.{accepts}
-use Rattle.lora.proofs.HeadLaws.{head-sound}
 use Rattle.reading.specs.Found.{foundAt, repairedAt, symbolOfBit, repairedIn, hurtAt}
 use Rattle.reading.proofs.HurtLaws.{flipped-within}
 use Rattle.promises.specs.Damage.{readWords, blockFor, sentWord, arrivedWord, changedIn, changedBySymbol, valueIn, FewSymbols, Passed}
@@ -54,18 +55,16 @@ all-repairs F symbols len v =
     (λ i l r. omega (arith, flipped-within F v symbols i r, symbols-below F v (nibblesOf F len) (blockOfCodeword F i) (block-of-read F v i (nibblesOf F len) l)))
 
 -- The cells of the symbols used add up to the repairs answered, whatever was accepted.
-pub adds-up : {sf : ℕ} {low : Bool} {symbols old new hurts hurts′ : List ℕ} {a : Accepted} → Reading sf low symbols old new hurts hurts′ (Payload a)
+pub adds-up : {sf : ℕ} {low : Bool} {expected : Expected} {symbols old new hurts hurts′ : List ℕ} {a : Accepted} → Reading sf low expected symbols old new hurts hurts′ (Payload a)
     → sum (take (a .symbols) hurts′) ≡ a .repairs
 unfolding acceptedOf
-adds-up {sf} {low} {symbols} {old} {new} {hurts} {hurts′} {a} c =
-    let k = accepts sf low symbols (length old) (length hurts) a (sym (c .answer)) in
-    let h = head-sound sf symbols _ (k .head) in
-    let F : Frame = frameSaid sf low (a .cr) (a .checked) in
-    let v : Valid F = record { sf-low = h .sf-low; sf-high = h .sf-high; cr-low = h .cr-low; cr-high = h .cr-high; header-high = omega arith } in
+adds-up {sf} {low} {expected} {symbols} {old} {new} {hurts} {hurts′} {a} c =
+    let k = accepts sf low expected symbols (length old) (length hurts) a (sym (c .answer)) in
+    let F : Frame = frameSaid sf low expected (a .cr) (a .checked) in
     let count : a .symbols ≡ symbolsOf F (a .length) = ap (λ (x : Accepted). x .symbols) (k .is) in
     let front : take (a .symbols) hurts′ ≡ tab (a .symbols) (hurtFound F symbols (a .length))
     = rw (c .marks) (take-at (tab (a .symbols) (hurtFound F symbols (a .length))) (drop (a .symbols) hurts) (a .symbols) (length-tab (a .symbols) _)) in
-    ap sum (front ∙ ap (λ (n : ℕ). tab n (hurtFound F symbols (a .length))) count) ∙ all-repairs F symbols (a .length) v
+    ap sum (front ∙ ap (λ (n : ℕ). tab n (hurtFound F symbols (a .length))) count) ∙ all-repairs F symbols (a .length) (k .valid)
     ∙ sym (ap (λ (x : Accepted). x .repairs) (k .is))
 
 -- a test that holds at some place is counted
@@ -78,7 +77,7 @@ some-counted p n i l e = by (howMany p n) refl
 
 -- With at most one symbol changed in each block, at 4/7 and 4/8:
 module _ {s : Settings} {payload old sent : List ℕ} {count : ℕ} {arrived buffer buffer′ hurts hurts′ : List ℕ} {answer : Received}
-    (c : Passed s payload old sent count arrived buffer buffer′ hurts hurts′ answer) (rate : 3 ≤ s .cr) (few : FewSymbols 1 s payload sent arrived)
+    (c : Passed s payload old sent count arrived buffer buffer′ hurts hurts′ answer) (rate : 3 ≤ crOf (s .kind)) (few : FewSymbols 1 s payload sent arrived)
     (t : ℕ) (h : t < count) where
   -- each cell is the number of read codewords in which that symbol's bit changed,
   pub each-cell : getD hurts′ t 0 ≡ changedBySymbol s payload arrived t

@@ -1,5 +1,6 @@
 pub mod Near
 pub mod Back
+pub mod Front
 pub mod Outcome
 pub mod Answers
 pub mod Codewords

@@ -21,14 +21,15 @@ use Rattle.codeword.specs.Found.{Found, Taken, Repaired, Unreadable}
 use Rattle.codeword.proofs.CodeLaws as code
 use Rattle.coding.specs.Symbols.{codewordInBlock, symbolInBlock}
 use Rattle.coding.proofs.CodingLaws.{frame-nibble-lt, symbol-of-block}
-use Rattle.header.proofs.HeaderLaws.{header-nibble-lt, length-header}
 use Rattle.layout.specs.Ranges.{Valid}
 use Rattle.layout.specs.Layout.{blockOfCodeword, laterBlocks, symbolsOf}
 use Rattle.layout.specs.declared.Block.{Block}
 use Rattle.layout.proofs.LayoutLaws.{codeword-place, block-of-read, rate-first, rate-later, rate-fits, symbols-below}
 use Rattle.lora.specs.Code.{sentNibble, sentSymbol}
-use Rattle.lora.specs.Count.{frameOf}
+use Rattle.lora.specs.Count.{crOf, checkedOf, frameOf, countOf}
+use Rattle.lora.specs.declared.Counted.the-variants.{Symbols}
 use Rattle.lora.specs.declared.Settings.{Settings}
+use Rattle.lora.proofs.SendLaws.{sendable}
 use Rattle.reading.specs.Found.{wordInBlock, foundInBlock, foundAt, symbolOfBit, repairedIn}
 use Rattle.reading.proofs.ReadingLaws.{word-lt}
 use Rattle.promises.specs.Damage.{readWords, blockAt, blockFor, sentWord, arrivedWord, changedBits, changedIn, changedSymbols, valueIn, changedValues}
@@ -55,18 +56,17 @@ one-bit first columns k t p l one = by (leb first t) (ltb (t - first) columns) r
     by true false d e = ne-eqb (first + k) t (λ q. omega (arith, ltb-false (t - first) columns e))
     by true true d e = at (leb-true first t d) (ℕ-discrete (t - first) k) ∙ sym (one (t - first) (ltb-true (t - first) columns e))
 
--- valid settings and a payload of at most 255 bytes
+-- valid settings, and a payload of a length that they take
 pub record Sent (s : Settings) (payload : List ℕ) : Type 0 where
   pub valid : Valid (frameOf s)
   pub short : length payload ≤ 255
+  pub counted : countOf s (length payload) ≡ Symbols (symbolsOf (frameOf s) (length payload))
   pub bytes : Bytes payload
 
-pub sent-nibble-lt : (s : Settings) (payload : List ℕ) → Sent s payload → (i : ℕ) → sentNibble s payload i < 16
+pub sent-nibble-lt : (s : Settings) (payload : List ℕ) → Sent s payload → (i : ℕ) → sentNibble (frameOf s) payload i < 16
 unfolding sentNibble
 sent-nibble-lt s payload p i =
-    frame-nibble-lt {F = frameOf s} _ payload (s .checked) i
-    (record { nibbles = header-nibble-lt (length payload) (s .cr) (s .checked) (omega arith) (p .valid .cr-high); long = length-header (length payload) (s .cr) (s .checked); short = p .short })
-    (p .bytes)
+    frame-nibble-lt {F = frameOf s} _ payload (checkedOf (s .kind)) i (sendable (frameOf s) (length payload) (p .valid) payload refl (p .short)) (p .bytes)
 
 -- codeword i stands in a row of its block
 row-of : (s : Settings) → Valid (frameOf s) → (i : ℕ) → (blockFor s i .codeword + (i - blockFor s i .codeword) ≡ i) × (i - blockFor s i .codeword < blockFor s i .rows)
@@ -76,19 +76,19 @@ row-of s v i =
     (omega arith, omega arith)
 
 own-word : (s : Settings) (payload : List ℕ) → Valid (frameOf s) → (i : ℕ)
-    → codewordInBlock (blockFor s i) (sentNibble s payload) (i - blockFor s i .codeword) ≡ sentWord s payload i
+    → codewordInBlock (blockFor s i) (sentNibble (frameOf s) payload) (i - blockFor s i .codeword) ≡ sentWord s payload i
 unfolding codewordInBlock sentWord
 own-word s payload v i = rw (row-of s v i .0)
 
 module _ (s : Settings) (payload sent arrived : List ℕ) (p : Sent s payload)
-    (frame : (t : ℕ) → t < symbolsOf (frameOf s) (length payload) → getD sent t 0 ≡ sentSymbol s payload t) where
+    (frame : (t : ℕ) → t < symbolsOf (frameOf s) (length payload) → getD sent t 0 ≡ sentSymbol (frameOf s) payload t) where
   -- the symbols of a block as they were sent
   sent-in-block : (b j : ℕ) → b ≤ laterBlocks (frameOf s) (readWords s payload) → j < 4 + blockAt s b .rate
-      → getD sent (blockAt s b .symbol + j) 0 ≡ symbolInBlock (blockAt s b) (sentNibble s payload) j
+      → getD sent (blockAt s b .symbol + j) 0 ≡ symbolInBlock (blockAt s b) (sentNibble (frameOf s) payload) j
   unfolding blockAt sentSymbol sentNibble readWords symbolsOf
   sent-in-block b j h l =
       let within = symbols-below (frameOf s) (p .valid) (readWords s payload) b h in
-      frame _ (omega arith) ∙ symbol-of-block (frameOf s) (sentNibble s payload) b j (p .valid) l
+      frame _ (omega arith) ∙ symbol-of-block (frameOf s) (sentNibble (frameOf s) payload) b j (p .valid) l
 
   -- a symbol that is read as the value that was sent changes no bit of a codeword
   pub same-bit : (i j : ℕ) → i < readWords s payload → j < 4 + blockFor s i .rate → valueIn (blockFor s i) arrived j ≡ valueIn (blockFor s i) sent j
@@ -97,8 +97,8 @@ module _ (s : Settings) (payload sent arrived : List ℕ) (p : Sent s payload)
   same-bit i j h l e =
       let b : ℕ = blockOfCodeword (frameOf s) i in
       let B : Block = blockAt s b in
-      let own : symbolInBlock B (sentNibble s payload) j ≡ getD sent (B .symbol + j) 0 = sym (sent-in-block b j (block-of-read (frameOf s) (p .valid) i (readWords s payload) h) l) in
-      local (B .rows) (4 + B .rate) (B .spaced) (codewordInBlock B (sentNibble s payload)) (λ k. getD arrived (B .symbol + k) 0) (i - B .codeword) j (row-of s (p .valid) i .1) l
+      let own : symbolInBlock B (sentNibble (frameOf s) payload) j ≡ getD sent (B .symbol + j) 0 = sym (sent-in-block b j (block-of-read (frameOf s) (p .valid) i (readWords s payload) h) l) in
+      local (B .rows) (4 + B .rate) (B .spaced) (codewordInBlock B (sentNibble (frameOf s) payload)) (λ k. getD arrived (B .symbol + k) 0) (i - B .codeword) j (row-of s (p .valid) i .1) l
       (e ∙ ap (valueOfNumber (B .rows) (B .spaced)) (sym own))
       ∙ ap (bit j) (own-word s payload (p .valid) i)
 
@@ -109,14 +109,14 @@ module _ (s : Settings) (payload sent arrived : List ℕ) (p : Sent s payload)
       let b : ℕ = blockOfCodeword (frameOf s) i in
       let B : Block = blockAt s b in
       let row : i - B .codeword < B .rows = row-of s (p .valid) i .1 in
-      let own : codewordInBlock B (sentNibble s payload) (i - B .codeword) ≡ codeword (B .rate) (sentNibble s payload i) = own-word s payload (p .valid) i in
+      let own : codewordInBlock B (sentNibble (frameOf s) payload) (i - B .codeword) ≡ codeword (B .rate) (sentNibble (frameOf s) payload i) = own-word s payload (p .valid) i in
       let value : ℕ → ℕ = valueOfNumber (B .rows) (B .spaced) in
       let count : howMany (λ j. not (eqb (value (getD arrived (B .symbol + j) 0)) (value (getD sent (B .symbol + j) 0)))) (4 + B .rate)
-      ≡ howMany (λ j. not (eqb (value (getD arrived (B .symbol + j) 0)) (value (symbolInBlock B (sentNibble s payload) j)))) (4 + B .rate)
+      ≡ howMany (λ j. not (eqb (value (getD arrived (B .symbol + j) 0)) (value (symbolInBlock B (sentNibble (frameOf s) payload) j)))) (4 + B .rate)
       = howMany-cong _ _ (4 + B .rate)
       (λ j l. ap (λ (x : ℕ). not (eqb (value (getD arrived (B .symbol + j) 0)) (value x))) (sent-in-block b j (block-of-read (frameOf s) (p .valid) i (readWords s payload) h) l)) in
       rw count
-      (rw own at (wrong-bits (B .rows) (4 + B .rate) (B .spaced) (codewordInBlock B (sentNibble s payload)) (λ j. getD arrived (B .symbol + j) 0) (i - B .codeword) row))
+      (rw own at (wrong-bits (B .rows) (4 + B .rate) (B .spaced) (codewordInBlock B (sentNibble (frameOf s) payload)) (λ j. getD arrived (B .symbol + j) 0) (i - B .codeword) row))
 
 -- a symbol with a changed value is a changed symbol
 pub values-le : (s : Settings) (sent arrived : List ℕ) (b : ℕ) → changedValues s sent arrived b ≤ changedSymbols s sent arrived b
@@ -145,16 +145,16 @@ module _ (s : Settings) (payload arrived : List ℕ) (p : Sent s payload) where
 
   -- the bit that flips the word received to the one sent
   abbrev flippedIn : ℕ → ℕ
-  flippedIn i = bitTo (blockFor s i .rate) (arrivedWord s arrived i) (sentNibble s payload i)
+  flippedIn i = bitTo (blockFor s i .rate) (arrivedWord s arrived i) (sentNibble (frameOf s) payload i)
 
   -- no changed bit: it is taken
-  pub found-none : (i : ℕ) → changedBits s payload arrived i ≡ 0 → foundAt (frameOf s) arrived i ≡ Taken (sentNibble s payload i)
+  pub found-none : (i : ℕ) → changedBits s payload arrived i ≡ 0 → foundAt (frameOf s) arrived i ≡ Taken (sentNibble (frameOf s) payload i)
   unfolding changedBits sentWord found
   found-none i e = found-is i ∙ code.found-same _ _ _ (rate-ok i) (arrived-lt i) (sent-nibble-lt s payload p i) e
 
   -- one: it is repaired at 4/7 and 4/8, and can't be read at 4/5 and 4/6
   pub found-repaired : (i : ℕ) → 3 ≤ blockFor s i .rate → changedBits s payload arrived i ≡ 1
-      → foundAt (frameOf s) arrived i ≡ Repaired (sentNibble s payload i) (flippedIn i)
+      → foundAt (frameOf s) arrived i ≡ Repaired (sentNibble (frameOf s) payload i) (flippedIn i)
   unfolding changedBits sentWord found
   found-repaired i h e = found-is i ∙ code.found-repaired _ _ _ (rate-ok i) (arrived-lt i) (sent-nibble-lt s payload p i) h e
 
@@ -166,7 +166,7 @@ module _ (s : Settings) (payload arrived : List ℕ) (p : Sent s payload) where
   pub found-double : (i : ℕ) → blockFor s i .rate ≡ 4 → changedBits s payload arrived i ≡ 2 → foundAt (frameOf s) arrived i ≡ Unreadable
   unfolding changedBits sentWord found
   found-double i h e =
-      found-is i ∙ rw h (code.found-two (arrivedWord s arrived i) (sentNibble s payload i) (rw h at (arrived-lt i)) (sent-nibble-lt s payload p i) (rw h at e))
+      found-is i ∙ rw h (code.found-two (arrivedWord s arrived i) (sentNibble (frameOf s) payload i) (rw h at (arrived-lt i)) (sent-nibble-lt s payload p i) (rw h at e))
 
   -- it is repaired in the symbols that changed a bit of it: in none, or in one
   pub marks-none : (i t : ℕ) → changedBits s payload arrived i ≡ 0 → repairedIn (frameOf s) arrived t i ≡ changedIn s payload arrived t i
@@ -187,6 +187,6 @@ pub rate-in-first : (s : Settings) (i : ℕ) → i < s .sf - 2 → blockFor s i 
 unfolding blockFor blockAt
 rate-in-first s i h = rate-first (frameOf s) i h
 
-pub rate-in-later : (s : Settings) (i : ℕ) → s .sf - 2 ≤ i → blockFor s i .rate ≡ s .cr
+pub rate-in-later : (s : Settings) (i : ℕ) → s .sf - 2 ≤ i → blockFor s i .rate ≡ crOf (s .kind)
 unfolding blockFor blockAt
 rate-in-later s i h = rate-later (frameOf s) i h

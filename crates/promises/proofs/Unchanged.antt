@@ -25,12 +25,12 @@ module _ {s : Settings} {payload old sent : List ℕ} {count : ℕ} (c : Coding 
       (symbol-below (frameOf s) _ t (coded s payload (length old) count (sym (c .answer)) .0 .settings))
 
   module _ (after : List ℕ) where
-    as-written : take count sent ≡ tab count (sentSymbol s payload)
-    as-written = rw (c .cells) (take-at (tab count (sentSymbol s payload)) (drop count old) count (length-tab count _))
+    as-written : take count sent ≡ tab count (sentSymbol (frameOf s) payload)
+    as-written = rw (c .cells) (take-at (tab count (sentSymbol (frameOf s) payload)) (drop count old) count (length-tab count _))
 
     pub same : (t : ℕ) → t < count → getD (take count sent ++ after) t 0 ≡ getD sent t 0
     same t h =
-        rw as-written (List·getD-append (tab count (sentSymbol s payload)) after 0 t (rw length-tab h) ∙ getD-tab count (sentSymbol s payload) t 0 h)
+        rw as-written (List·getD-append (tab count (sentSymbol (frameOf s) payload)) after 0 t (rw length-tab h) ∙ getD-tab count (sentSymbol (frameOf s) payload) t 0 h)
         ∙ sym (frame-cells s payload old sent count c t h)
 
     pub enough : count ≤ length (take count sent ++ after)

@@ -1,4 +1,4 @@
--- A frame that was sent, and the symbols that arrived. The words in which demands 2 and 3 are said.
+-- A frame that was sent, with a header or without, and the symbols that arrived. The words in which demands 2 and 3 are said.
 -- Assumes nothing.
 use mathlib.Core.Bool.{Bool, not, _&&_, cond}
 use mathlib.Core.List.{List, _++_}
@@ -15,7 +15,7 @@ use Rattle.drift.specs.Drift.{driftOf}
 use Rattle.layout.specs.Layout.{blockOf, blockOfCodeword, laterBlocks, nibblesOf}
 use Rattle.layout.specs.declared.Block.{Block}
 use Rattle.lora.specs.Code.{sentNibble, Coding}
-use Rattle.lora.specs.Count.{frameOf}
+use Rattle.lora.specs.Count.{crOf, checkedOf, expectedOf, frameOf}
 use Rattle.lora.specs.Read.{Reading}
 use Rattle.lora.specs.declared.Settings.{Settings}
 use Rattle.lora.specs.declared.Counted.the-variants.{Symbols}
@@ -36,7 +36,7 @@ blockFor s i = blockAt s (blockOfCodeword (frameOf s) i)
 
 -- codeword i as it was sent, and the word received for it
 unfoldable pub sentWord : Settings → List ℕ → ℕ → ℕ
-sentWord s payload i = codeword (blockFor s i .rate) (sentNibble s payload i)
+sentWord s payload i = codeword (blockFor s i .rate) (sentNibble (frameOf s) payload i)
 
 unfoldable pub arrivedWord : Settings → List ℕ → ℕ → ℕ
 arrivedWord s arrived i = wordInBlock (blockFor s i) arrived (i - blockFor s i .codeword)
@@ -79,7 +79,8 @@ FewValues k s payload sent arrived = (b : ℕ) → b ≤ laterBlocks (frameOf s)
 abbrev pub FewBits : ℕ → Settings → List ℕ → List ℕ → Type 0
 FewBits k s payload arrived = (i : ℕ) → i < readWords s payload → changedBits s payload arrived i ≤ k
 
--- a payload was coded; as many symbols arrived, each below 2^SF, and were read into enough room; further symbols are free
+-- a payload was coded; as many symbols arrived, each below 2^SF, and were read into enough room, without a header by the same agreed
+-- values; further symbols are free
 pub record Passed (s : Settings) (payload old sent : List ℕ) (count : ℕ) (arrived buffer buffer′ hurts hurts′ : List ℕ) (answer : Received) : Type 0 where
   pub bytes : Bytes payload
   pub coded : Coding s payload old sent (Symbols count)
@@ -87,7 +88,7 @@ pub record Passed (s : Settings) (payload old sent : List ℕ) (count : ℕ) (ar
   pub below : (t : ℕ) → t < count → getD arrived t 0 < 2 ^ (s .sf)
   pub room : length payload ≤ length buffer
   pub lists : count ≤ length hurts
-  pub read : Reading (s .sf) (s .low) arrived buffer buffer′ hurts hurts′ answer
+  pub read : Reading (s .sf) (s .low) (expectedOf (s .kind)) arrived buffer buffer′ hurts hurts′ answer
 
 -- codeword i has a changed bit; it has one and stands after block 0; it has two
 unfoldable pub hurt : Settings → List ℕ → List ℕ → ℕ → Bool
@@ -104,8 +105,8 @@ hurtTwice s payload arrived i = eqb (changedBits s payload arrived i) 2
 pub record Returned (s : Settings) (payload arrived : List ℕ) (count : ℕ) (old new hurts hurts′ : List ℕ) (answer : Received) : Type 0 where
   pub says : answer ≡ Payload (record {
     length = length payload;
-    cr = s .cr;
-    checked = s .checked;
+    cr = crOf (s .kind);
+    checked = checkedOf (s .kind);
     symbols = count;
     repairs = howMany (hurt s payload arrived) (readWords s payload);
     drift = driftOf (s .sf) (getD arrived 0 0);

@@ -9,8 +9,11 @@ use lib.ListN.{length, getD}
 use Rattle.codeword.specs.Codeword.{codeword, apart}
 use Rattle.header.specs.declared.Header.{Header}
 use Rattle.layout.specs.Layout.{symbolsOf}
-use Rattle.lora.specs.Count.{frameOf}
+use Rattle.lora.specs.Count.{frameOf, countOf}
 use Rattle.lora.specs.Head.{headOf}
+use Rattle.lora.specs.declared.Counted.the-variants.{Symbols}
+use Rattle.lora.specs.declared.Kind.{Kind}
+use Rattle.lora.specs.declared.Kind.the-variants.{Explicit, Agreed}
 use Rattle.lora.specs.declared.Settings.{Settings}
 use Rattle.lora.specs.declared.Heading.the-variants.{Says}
 
@@ -32,13 +35,21 @@ unfoldable pub oneOf : List ℕ → ℕ → Bool
 oneOf [] n = false
 oneOf (a ∷ others) n = eqb n a || oneOf others n
 
--- the settings are those that the header says, where one is said
-abbrev pub Said : Settings → List ℕ → Type 0
-Said s symbols = (h : Header) → headOf (s .sf) symbols ≡ Says h → (h .cr ≡ s .cr) × (h .checked ≡ s .checked)
+-- the settings are those that the header says, where one is expected and said
+abbrev pub Said : Kind → ℕ → List ℕ → Type 0
+Said (Explicit cr flag) sf symbols = (h : Header) → headOf sf symbols ≡ Says h → (h .cr ≡ cr) × (h .checked ≡ flag)
+Said (Agreed agreed cr flag) sf symbols = Unit
 
--- a header says these settings and this length, and the frame is there whole, below 2^SF, with room for its payload and its marks
+-- how the reader knows of a payload of this length: a header says it, or it was agreed and is one that count takes
+abbrev pub Told : Kind → ℕ → Bool → ℕ → List ℕ → Type 0
+Told (Explicit cr flag) sf low len symbols = headOf sf symbols ≡ Says (record { length = len; cr = cr; checked = flag })
+Told (Agreed agreed cr flag) sf low len symbols =
+    let s : Settings = record { sf = sf; low = low; kind = Agreed agreed cr flag } in
+    countOf s len ≡ Symbols (symbolsOf (frameOf s) len)
+
+-- these settings and this length are known, and the frame is there whole, below 2^SF, with room for its payload and its marks
 pub record Arrived (s : Settings) (len : ℕ) (symbols buffer hurts : List ℕ) : Type 0 where
-  pub head : headOf (s .sf) symbols ≡ Says (record { length = len; cr = s .cr; checked = s .checked })
+  pub told : Told (s .kind) (s .sf) (s .low) len symbols
   pub room : len ≤ length buffer
   pub lists : symbolsOf (frameOf s) len ≤ length hurts
   pub enough : symbolsOf (frameOf s) len ≤ length symbols
