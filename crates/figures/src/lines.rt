@@ -50,9 +50,10 @@ pub fn ours(line: usize, k: usize) -> usize {
         14 => mapped(7, false),
         15 => rules::compared(Rule::Formula, 24576, first),
         16 => rules::compared(Rule::FormulaAsPrinted, 24576, first),
-        17 => rules::compared(Rule::Register, 255, first),
-        18 => rules::compared(Rule::Generators, 64, first),
-        19 => rules::compared(Rule::Checks, 2048, first),
+        17 => rules::compared(Rule::FormulaWithoutHeader, 24576, first),
+        18 => rules::compared(Rule::Register, 255, first),
+        19 => rules::compared(Rule::Generators, 64, first),
+        20 => rules::compared(Rule::Checks, 2048, first),
         _ => ours::checks(k),
     }
 }

@@ -27,6 +27,7 @@ fn main() {
 001, SF 11: word 7 | $ | 291;
 001: symbol counts by the formula with the factor CR + 4, alike and not | # # | 24576; 0;
 001: the same with the factor as printed, 4 / (CR + 4), alike and not | # # | 24576; 0;
+001: symbol counts without a header, 20 bits less, factor CR + 4, alike and not | # # | 24576; 0;
 001, Matlab code, and 003, program: whitening bytes, alike and not | # # | 255; 0;
 000 (6) to (9), 003: codewords at CR 1 to 4 by the matrices, alike and not | # # | 64; 0;
 000 (12), 003 (3.2): headers by the matrix, alike and not | # # | 2048; 0;

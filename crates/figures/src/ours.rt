@@ -1,6 +1,7 @@
 // What the crates below answer.
 ghost use Prim.Native.Nat.{_≤_};
 use lora::Counted;
+use lora::Kind;
 use lora::Lasting;
 use lora::Settings;
 
@@ -18,8 +19,10 @@ pub fn airtime(first: bool) -> usize {
     let settings = Settings {
         sf: 11,
         low: false,
-        cr: 1,
-        checked: true,
+        kind: Kind::Explicit {
+            cr: 1,
+            checked: true,
+        },
     };
     let lasting = lora::airtime(settings, 2, 125, 8);
     match lasting {
@@ -44,8 +47,7 @@ pub fn coded(sf: u8, low: bool, cr: u8, length: usize, k: usize) -> usize
     let settings = Settings {
         sf,
         low,
-        cr,
-        checked: true,
+        kind: Kind::Explicit { cr, checked: true },
     };
     let counted = lora::code(settings, &payload[0..length], &mut cells);
     if k < 2 {
