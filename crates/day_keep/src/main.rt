@@ -290,8 +290,9 @@ fn help() {
 day_keep < captures > file
 day_keep NAME < captures
 
-Reads LoRa frames, one a line as lora_lines takes them, and keeps the day in one file: settings, accepted frames and refused
-frames. With a name the file is written beside it, read back and then named; a file that has the name already is left alone.
+Reads LoRa frames, one a line as lora_lines takes them, with a header or behind = without one, and keeps the day in one file:
+settings, accepted frames and refused frames. With a name the file is written beside it, read back and then named; a file
+that has the name already is left alone.
 What the file can't hold is told on standard error, as 'line 17: no 14 0'; docs/REFUSALS.md says what each number means.
 The last line on standard error is 'kept FRAMES REPAIRED REFUSED TOLD' if the file was kept, and else says why it was not.
 day_show shows what a file has.

@@ -6,11 +6,12 @@ use Prim.Native.Nat.{ℕ, _+_}
 use lib.Dec.{eqb}
 use lib.ListN.{take}
 use Rattle.bits.specs.Tab.{blank}
+use Rattle.capture.specs.Capture.{Capture, bad, frame, captureOf}
 use Rattle.line.specs.Line.{decimal, field, lineOf}
 use Rattle.lora.specs.Read.{readOf, hurtsAfter}
+use Rattle.lora.specs.declared.Expected.{Expected}
 use Rattle.lora.specs.declared.Received.{Received}
 use Rattle.lora.specs.declared.Received.the-variants.{Payload, Refused}
-use Rattle.text.specs.Text.{Text, bad, frame, wordsFrom, textOf}
 
 -- a symbol's index and its count, a colon between them; nothing where the count is 0
 unfoldable pub entry : ℕ → ℕ → List ℕ
@@ -36,13 +37,13 @@ hurtsIn (Payload a) cells = take (a .symbols) cells
 hurtsIn (Refused number place) cells = []
 
 -- the line for what read answers, into 255 cells and 832 counts
-abbrev pub lineFor : ℕ → Bool → List ℕ → Received → List ℕ
-lineFor sf low symbols r = hurtLine r (hurtsIn r (hurtsAfter r sf low symbols (blank 832 0)))
+abbrev pub lineFor : ℕ → Bool → Expected → List ℕ → Received → List ℕ
+lineFor sf low expected symbols r = hurtLine r (hurtsIn r (hurtsAfter r sf low expected symbols (blank 832 0)))
 
--- the line that answers a text; any text that can't be taken is refusal 14
-abbrev pub answerTo : Text → List ℕ
+-- the line that answers a capture; any that can't be taken is refusal 14
+abbrev pub answerTo : Capture → List ℕ
 answerTo bad = hurtLine (Refused 14 0) []
-answerTo (frame sf low symbols) = lineFor sf low symbols (readOf sf low symbols 255 832)
+answerTo (frame sf low expected symbols) = lineFor sf low expected symbols (readOf sf low expected symbols 255 832)
 
 unfoldable pub answerOf : List ℕ → List ℕ
-answerOf bytes = answerTo (textOf (wordsFrom [] bytes))
+answerOf bytes = answerTo (captureOf bytes)

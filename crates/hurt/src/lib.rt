@@ -1,20 +1,19 @@
-// Which symbols of a frame were hurt, as the line that answers its text.
+// Which symbols of a frame were hurt, as the line that answers its capture.
 ghost use mathlib.Core.Path.{_≡_};
 ghost use Prim.Native.Nat.{_+_, _*_, _≤_};
 ghost use lib.ListN.{length};
 ghost use Rattle.bits.specs.Tab.{placed};
+ghost use Rattle.capture.specs.Scan.{Sane, stateOf, outcomeAt};
 ghost use Rattle.line.specs.Outcome.{Answered, outcomeOf};
 ghost use Rattle.put.specs.Put.{Put};
-ghost use Rattle.text.specs.Scan.{Sane, stateOf, outcomeAt};
-ghost use Rattle.text.specs.Text.{frame, outcomeTo};
 ghost use Rattle.hurt.specs.Answer.{Marked, lineAt};
-ghost use Rattle.hurt.specs.Hurt.{entry, entriesFrom, okLine, hurtLine, hurtsIn, answerTo};
+ghost use Rattle.hurt.specs.Hurt.{entry, entriesFrom, okLine, hurtLine, hurtsIn};
+use capture::Scan;
 use layout::LONGEST;
 use layout::MOST_SYMBOLS;
 use line::Answer;
 use lora::Received;
 use put::put;
-use text::Scan;
 
 // Writes a symbol's entry at a place and answers the next place. Index and count have at most three digits.
 fn put_entry(out: &mut [u8], at: usize, symbol: usize, count: u8) -> usize
@@ -67,7 +66,7 @@ fn write_hurt(received: Received, hurts: &[u8], out: &mut [u8]) -> usize
     }
 }
 
-// The line, and how the text was answered.
+// The line, and how the capture was answered.
 fn answer_with(received: Received, hurts: &[u8], out: &mut [u8]) -> Answer
     requires { ⌜ Marked received × (length (now hurts) ≡ 832) × (7000 ≤ length (now out)) ⌝ }
     ensures { λ r. ⌜ Answered 7000 (hurtLine received (hurtsIn received (now (hurts .entry)))) (outcomeOf received) (now (out .entry)) (now (out .exit)) r ⌝ }
@@ -78,34 +77,14 @@ fn answer_with(received: Received, hurts: &[u8], out: &mut [u8]) -> Answer
     }
 }
 
-// Reads a frame and writes its line.
-fn answer_frame(sf: u16, low: bool, symbols: &[u16], out: &mut [u8]) -> Answer
-    requires { ⌜ 7000 ≤ length (now out) ⌝ }
-    ensures { λ r. ⌜ Answered 7000 (answerTo (frame sf low (now (symbols .entry)))) (outcomeTo (frame sf low (now (symbols .entry)))) (now (out .entry)) (now (out .exit)) r ⌝ }
-{
-    let mut payload = [0u8; LONGEST];
-    let mut hurts = [0u8; MOST_SYMBOLS];
-    let received = lora::read(text::narrow(sf), low, symbols, &mut payload, &mut hurts);
-    answer_with(received, &hurts, out)
-}
-
-// The line that answers the text that was taken and ends here, written to the lent buffer.
+// The line that answers the capture that was taken and ends here, written to the lent buffer.
 pub fn answer(scan: Scan, numbers: &mut [u16], out: &mut [u8]) -> Answer
     requires { ⌜ Sane scan (now numbers) × (7000 ≤ length (now out)) ⌝ }
     ensures { λ r. ⌜ Answered 7000 (lineAt (stateOf scan (now (numbers .entry)))) (outcomeAt (stateOf scan (now (numbers .entry)))) (now (out .entry)) (now (out .exit)) r ⌝ }
 {
-    let done = text::finish(scan, numbers);
-    let count = done.count;
-    if !text::is_frame(done, numbers) {
-        let none = [0u8; MOST_SYMBOLS];
-        return answer_with(
-            Received::Refused {
-                number: refusal::BAD_TEXT,
-                place: 0,
-            },
-            &none,
-            out,
-        );
-    }
-    answer_frame(numbers[0], numbers[1] == 1, &numbers[2..count], out)
+    let done = capture::finish(scan, numbers);
+    let mut payload = [0u8; LONGEST];
+    let mut hurts = [0u8; MOST_SYMBOLS];
+    let received = capture::receive(done, numbers, &mut payload, &mut hurts);
+    answer_with(received, &hurts, out)
 }

@@ -3,7 +3,7 @@
 use mathlib.Core.List.{List}
 use mathlib.Core.Path.{_≡_}
 use Prim.Native.Nat.{ℕ}
-use Rattle.text.specs.Scan.{Sane}
+use Rattle.capture.specs.Scan.{Sane}
 use Rattle.keep.specs.Rows.{Going}
 use Rattle.keep.specs.declared.Progress.{Progress}
 

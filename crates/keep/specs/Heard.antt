@@ -1,4 +1,4 @@
--- What a text is heard as.
+-- What a capture is heard as.
 -- Assumes nothing.
 use Prim.Native.Nat.{ℕ, _≤_}
 use Rattle.lora.specs.declared.Accepted.{Accepted}

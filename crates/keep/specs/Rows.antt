@@ -5,8 +5,8 @@ use mathlib.Core.Path.{_≡_}
 use Prim.Native.Nat.{ℕ, _+_, _*_, _≤_}
 use lib.ListN.{length}
 use Rattle.bits.specs.Bit.{asBit}
+use Rattle.capture.specs.Scan.{Sane}
 use Rattle.lora.specs.declared.Accepted.{Accepted}
-use Rattle.text.specs.Scan.{Sane}
 use Rattle.keep.specs.declared.Rows.{Rows}
 use Rattle.keep.specs.declared.Progress.{Progress}
 
@@ -27,7 +27,7 @@ pub record Few (rows : Rows) : Type 0 where
 
 -- the lent lists
 pub record Lent (numbers settings frames payloads refused : List ℕ) : Type 0 where
-  pub texts : length numbers ≡ 834
+  pub texts : length numbers ≡ 837
   pub pairs : length settings ≡ 1024
   pub fives : length frames ≡ 1280
   pub bytes : length payloads ≡ 65535

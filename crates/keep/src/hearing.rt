@@ -1,14 +1,16 @@
-// What a text is heard as.
+// What a capture is heard as.
 ghost use mathlib.Core.Path.{_≡_};
 ghost use Prim.Native.Nat.{_+_, _≤_};
 ghost use lib.ListN.{length};
-ghost use Rattle.text.specs.Scan.{Sane};
+ghost use Rattle.capture.specs.Scan.{Sane};
 ghost use Rattle.keep.specs.Heard.{Read, Sound};
 use bits::wide;
+use capture::Call;
+use capture::Scan;
 use layout::MOST_SYMBOLS;
 use lora::Accepted;
+use lora::Expected;
 use lora::Received;
-use text::Scan;
 
 // A frame that was accepted, or refused with a number that the file holds, and its settings; or a refusal to be told.
 pub enum Heard {
@@ -52,33 +54,36 @@ fn sort(sf: u8, low: bool, received: Received) -> Heard
 }
 
 // Reads a frame; its payload goes to the lent cells. The file has no place for the symbols that were hurt.
-fn hear_frame(sf: u8, low: bool, symbols: &[u16], payload: &mut [u8]) -> Heard
+fn hear_frame(sf: u8, low: bool, expected: Expected, symbols: &[u16], payload: &mut [u8]) -> Heard
     requires { ⌜ length (now payload) ≡ 255 ⌝ }
     ensures { λ r. ⌜ Sound r ⌝ }
 {
     let mut hurts = [0u8; MOST_SYMBOLS];
-    sort(sf, low, lora::read(sf, low, symbols, payload, &mut hurts))
+    let received = lora::read(sf, low, expected, symbols, payload, &mut hurts);
+    sort(sf, low, received)
 }
 
-// Reads the text that was taken and ends here.
+// Reads the capture that was taken and ends here.
 fn hear(scan: Scan, numbers: &mut [u16], payload: &mut [u8]) -> Heard
     requires { ⌜ Sane scan (now numbers) × (length (now payload) ≡ 255) ⌝ }
     ensures { λ r. ⌜ Sound r ⌝ }
 {
-    let done = text::finish(scan, numbers);
-    let count = done.count;
-    if !text::is_frame(done, numbers) {
-        return Heard::Told {
+    let done = capture::finish(scan, numbers);
+    let text = done.text;
+    let count = text.count;
+    let call = capture::call_of(done, numbers);
+    match call {
+        Call::Bad => Heard::Told {
             number: refusal::BAD_TEXT,
             place: 0,
-        };
+        },
+        Call::Frame {
+            sf,
+            low,
+            expected,
+            start,
+        } => hear_frame(sf, low, expected, &numbers[start..count], payload),
     }
-    hear_frame(
-        text::narrow(numbers[0]),
-        numbers[1] == 1,
-        &numbers[2..count],
-        payload,
-    )
 }
 
 // The same, and its payload goes behind so many bytes of others.

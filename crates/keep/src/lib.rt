@@ -36,9 +36,9 @@ pub struct Rows {
 }
 
 // How far a run has come: the open text, whether it has a byte yet, how many texts ended before it, how many of these were
-// told, and the entries of the others. The numbers of the open text stand in a lent list of 834.
+// told, and the entries of the others. The numbers of the open text stand in a lent list of 837.
 pub struct Progress {
-    pub scan: text::Scan,
+    pub scan: capture::Scan,
     pub begun: bool,
     pub lines: usize,
     pub told: usize,

@@ -2,8 +2,8 @@
 ghost use mathlib.Core.Path.{_≡_};
 ghost use Prim.Native.Nat.{_+_, _≤_, _<_};
 ghost use lib.ListN.{length};
+ghost use Rattle.capture.specs.Scan.{Sane};
 ghost use Rattle.lines.specs.Stream.{Ends};
-ghost use Rattle.text.specs.Scan.{Sane};
 ghost use Rattle.keep.specs.Rows.{Begins, Going};
 use crate::News;
 use crate::Progress;
@@ -19,7 +19,7 @@ pub fn begin() -> Progress
     ensures { λ r. ⌜ Begins r ⌝ }
 {
     Progress {
-        scan: text::begin(),
+        scan: capture::begin(),
         begun: false,
         lines: 0,
         told: 0,
@@ -80,7 +80,7 @@ fn close_text(
     let news = news_of(heard);
     Step {
         progress: Progress {
-            scan: text::begin(),
+            scan: capture::begin(),
             begun: false,
             lines: one_more(progress.lines),
             told: with_told(progress.told, news),
@@ -105,7 +105,7 @@ fn take_part(
     let scan = progress.scan;
     let rows = progress.rows;
     Progress {
-        scan: text::feed(scan, &chunk[at..end], numbers),
+        scan: capture::feed(scan, &chunk[at..end], numbers),
         begun: true,
         lines: progress.lines,
         told: progress.told,

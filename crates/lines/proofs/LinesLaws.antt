@@ -5,8 +5,8 @@ use mathlib.Core.Bool.{Bool, true, false}
 use mathlib.Core.List.{List, [], _∷_, _++_, append-assoc, append-nil, flatten}
 use Prim.Native.Nat.{ℕ}
 use lib.Dec.{eqb}
-use Rattle.text.specs.Text as text
-use Rattle.text.proofs.AnswerLaws.{answers-text, outcome-text}
+use Rattle.capture.proofs.CaptureLaws.{answers-capture, outcome-capture}
+use Rattle.text.specs.Text.{closed}
 use Rattle.wish.proofs.AnswerLaws.{answers-wish, outcome-wish}
 use Rattle.hurt.proofs.AnswerLaws.{answers-hurt}
 use Rattle.lines.specs.Counts.{none, counted}
@@ -17,14 +17,14 @@ use Rattle.lines.proofs.StreamLaws.{runAt-none, runAt-append, run-appen
 
 -- the line and the outcome of a piece whose bytes were taken
 line-is : (job : Job) (bytes : List ℕ) → lineAt (runAt (startOf job) bytes) ≡ lineTo job bytes
-line-is frames bytes = answers-text bytes
+line-is frames bytes = answers-capture bytes
 line-is wishes bytes = answers-wish bytes
 line-is hurts bytes = answers-hurt bytes
 
 outcome-is : (job : Job) (bytes : List ℕ) → outcomeAt (runAt (startOf job) bytes) ≡ outcomeTo job bytes
-outcome-is frames bytes = outcome-text bytes
+outcome-is frames bytes = outcome-capture bytes
 outcome-is wishes bytes = outcome-wish bytes
-outcome-is hurts bytes = outcome-text bytes
+outcome-is hurts bytes = outcome-capture bytes
 
 job-is : (job : Job) (bytes : List ℕ) → jobOf (runAt (startOf job) bytes) ≡ job
 job-is frames bytes = refl
@@ -63,8 +63,8 @@ record Answers (job : Job) (p : Point) (c : Counts) (bs : List ℕ) (pieces : Li
   counts : ended (run p bs) .counts ≡ countsFrom c job pieces
 
 -- the last piece: none if it is empty
-last-piece : (job : Job) (bytes : List ℕ) (c : Counts) → Answers job (point job bytes c) c [] (text.closed bytes)
-unfolding said run lastSaid ended next point some text.closed linesTo countsFrom
+last-piece : (job : Job) (bytes : List ℕ) (c : Counts) → Answers job (point job bytes c) c [] (closed bytes)
+unfolding said run lastSaid ended next point some closed linesTo countsFrom
 last-piece job [] c = record { lines = refl; counts = refl }
 last-piece job (b ∷ l) c = record { lines = rw (line-is job (b ∷ l), append-nil (lineTo job (b ∷ l))); counts = rw (outcome-is job (b ∷ l)) }
 

@@ -10,12 +10,11 @@ use borrow.Rule.Slice.PartMut.{mid-len}
 use lib.ListN.{length}
 use Rattle.put.specs.Put.{Put}
 use Rattle.put.proofs.Puts.{put-none, put-on}
-use Rattle.text.specs.Scan as text
+use Rattle.capture.specs.Scan as capture
 use Rattle.wish.specs.Scan as wish
-use Rattle.text.specs.declared.Scan as text-struct
+use Rattle.capture.specs.declared.Scan as capture-struct
 use Rattle.wish.specs.declared.Scan as wish-struct
-use Rattle.text.proofs.ScanLaws as text-scan
-use Rattle.text.proofs.TextLaws as text-laws
+use Rattle.capture.proofs.ScanLaws as capture-laws
 use Rattle.wish.proofs.ScanLaws as wish-laws
 use Rattle.line.specs.declared.Outcome.{Outcome}
 use Rattle.lines.specs.Counts.{none, counted}
@@ -29,15 +28,15 @@ use Rattle.lines.proofs.Parts.{part-more, part-none, part-on}
 
 -- the open piece: no byte, and bytes in two parts
 pub runAt-none : (a : At) → runAt a [] ≡ a
-unfolding text.run wish.run
+unfolding capture.run wish.run
 runAt-none (frameAt s) = refl
 runAt-none (wishAt s) = refl
 runAt-none (hurtAt s) = refl
 
 pub runAt-append : (a : At) (xs ys : List ℕ) → runAt (runAt a xs) ys ≡ runAt a (xs ++ ys)
-runAt-append (frameAt s) xs ys = ap frameAt (text-laws.run-append s xs ys)
+runAt-append (frameAt s) xs ys = ap frameAt (capture-laws.run-append s xs ys)
 runAt-append (wishAt s) xs ys = ap wishAt (wish-laws.run-append s xs ys)
-runAt-append (hurtAt s) xs ys = ap hurtAt (text-laws.run-append s xs ys)
+runAt-append (hurtAt s) xs ys = ap hurtAt (capture-laws.run-append s xs ys)
 
 -- bytes in two parts
 pub run-append : (p : Point) (xs ys : List ℕ) → run (run p xs) ys ≡ run p (xs ++ ys)
@@ -83,21 +82,17 @@ pub stands-here : (progress : Progress) (numbers : List ℕ) → SanePiece (prog
 stands-here progress numbers s = record { sane = s; is = refl }
 
 -- a piece of each kind with nothing taken
-pub frame-start : (c : text-struct.Scan) (numbers : List ℕ) → c .refused ≡ false → c .digits ≡ 0 → c .value ≡ 0 → c .count ≡ 0 → length numbers ≡ 834
-    → PieceHolds (frameAt text.start) (Frame c) numbers
-unfolding text.run
-frame-start c numbers r d v n l = let h = text-scan.holds-start c numbers r d v n l in record { sane = h .sane; is = ap frameAt (h .is) }
+pub frame-start : {c : capture-struct.Scan} {numbers : List ℕ} → capture.Holds capture.start c numbers → PieceHolds (frameAt capture.start) (Frame c) numbers
+frame-start h = record { sane = h .sane; is = ap frameAt (h .is) }
 
 pub wish-start : {c : wish-struct.Scan} {numbers : List ℕ} → wish.Holds wish.start c numbers → PieceHolds (wishAt wish.start) (Wish c) numbers
 wish-start h = record { sane = h .sane; is = ap wishAt (h .is) }
 
-pub hurt-start : (c : text-struct.Scan) (numbers : List ℕ) → c .refused ≡ false → c .digits ≡ 0 → c .value ≡ 0 → c .count ≡ 0 → length numbers ≡ 834
-    → PieceHolds (hurtAt text.start) (Hurt c) numbers
-unfolding text.run
-hurt-start c numbers r d v n l = let h = text-scan.holds-start c numbers r d v n l in record { sane = h .sane; is = ap hurtAt (h .is) }
+pub hurt-start : {c : capture-struct.Scan} {numbers : List ℕ} → capture.Holds capture.start c numbers → PieceHolds (hurtAt capture.start) (Hurt c) numbers
+hurt-start h = record { sane = h .sane; is = ap hurtAt (h .is) }
 
 -- the beginning of a run
-pub begins : (job : Job) {piece : Piece} {counts : Counts} → ((numbers : List ℕ) → length numbers ≡ 834 → PieceHolds (startOf job) piece numbers) → counts ≡ none
+pub begins : (job : Job) {piece : Piece} {counts : Counts} → ((numbers : List ℕ) → length numbers ≡ 837 → PieceHolds (startOf job) piece numbers) → counts ≡ none
     → Begins job (record { piece = piece; begun = false; counts = counts })
 unfolding begin pointOf
 begins job h e =
@@ -113,7 +108,7 @@ pub stands-next : (progress : Progress) (old : List ℕ) {piece : Piece} {counts
 unfolding next pointOf
 stands-next progress old h e o = record { sane = h .sane; is = rw (h .is, e, o) }
 
-pub sane-long : (piece : Piece) (numbers : List ℕ) → SanePiece piece numbers → length numbers ≡ 834
+pub sane-long : (piece : Piece) (numbers : List ℕ) → SanePiece piece numbers → length numbers ≡ 837
 sane-long (Frame scan) numbers s = s .long
 sane-long (Wish scan) numbers s = s .long
 sane-long (Hurt scan) numbers s = s .long

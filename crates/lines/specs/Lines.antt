@@ -4,14 +4,15 @@ use mathlib.Core.Bool.{cond}
 use mathlib.Core.List.{List, [], _∷_, _++_}
 use Prim.Native.Nat.{ℕ}
 use lib.Dec.{eqb}
+use Rattle.capture.specs.Capture as capture
 use Rattle.hurt.specs.Hurt as hurt
 use Rattle.line.specs.declared.Outcome.{Outcome}
-use Rattle.text.specs.Text as text
+use Rattle.text.specs.Text.{closed}
 use Rattle.wish.specs.Wish as wish
 use Rattle.lines.specs.Counts.{none, counted}
 use Rattle.lines.specs.declared.Counts.{Counts}
 
--- the texts that an input holds: frames to be read, wishes for frames to be made, or frames of which the hurt symbols are asked
+-- the texts that an input holds: captures to be read, wishes for frames to be made, or captures of which the hurt symbols are asked
 pub data Job : Type 0 where
   frames : Job
   wishes : Job
@@ -19,7 +20,7 @@ pub data Job : Type 0 where
 
 -- the pieces of an input; an empty last piece is none
 unfoldable pub piecesFrom : List ℕ → List ℕ → List (List ℕ)
-piecesFrom piece [] = text.closed piece
+piecesFrom piece [] = closed piece
 piecesFrom piece (b ∷ bs) = cond (eqb b 10) (piece ∷ piecesFrom [] bs) (piecesFrom (piece ++ (b ∷ [])) bs)
 
 unfoldable pub pieces : List ℕ → List (List ℕ)
@@ -27,14 +28,14 @@ pieces input = piecesFrom [] input
 
 -- the line that answers a text, and how it is answered
 abbrev pub lineTo : Job → List ℕ → List ℕ
-lineTo frames bytes = text.answerOf bytes
+lineTo frames bytes = capture.answerOf bytes
 lineTo wishes bytes = wish.answerOf bytes
 lineTo hurts bytes = hurt.answerOf bytes
 
 abbrev pub outcomeTo : Job → List ℕ → Outcome
-outcomeTo frames bytes = text.outcomeIs bytes
+outcomeTo frames bytes = capture.outcomeIs bytes
 outcomeTo wishes bytes = wish.outcomeIs bytes
-outcomeTo hurts bytes = text.outcomeIs bytes
+outcomeTo hurts bytes = capture.outcomeIs bytes
 
 unfoldable pub linesTo : Job → List (List ℕ) → List ℕ
 linesTo job [] = []

@@ -8,9 +8,9 @@ use lib.Dec.{eqb}
 use lib.ListN.{length, take, drop, getD}
 use Rattle.bits.specs.Search.{howMany}
 use Rattle.put.specs.Put.{Put}
+use Rattle.capture.specs.Scan as capture
 use Rattle.hurt.specs.Answer as hurt
 use Rattle.line.specs.declared.Outcome.{Outcome}
-use Rattle.text.specs.Scan as text
 use Rattle.wish.specs.Scan as wish
 use Rattle.lines.specs.Counts.{none, counted}
 use Rattle.lines.specs.Lines.{Job, frames, wishes, hurts}
@@ -21,14 +21,14 @@ use Rattle.lines.specs.declared.Piece.the-variants.{Frame, Wish, Hurt}
 
 -- the state of the piece that is open, by what is asked of it
 pub data At : Type 0 where
-  frameAt : text.State → At
+  frameAt : capture.State → At
   wishAt : wish.State → At
-  hurtAt : text.State → At
+  hurtAt : capture.State → At
 
 abbrev pub startOf : Job → At
-startOf frames = frameAt text.start
+startOf frames = frameAt capture.start
 startOf wishes = wishAt wish.start
-startOf hurts = hurtAt text.start
+startOf hurts = hurtAt capture.start
 
 abbrev pub jobOf : At → Job
 jobOf (frameAt s) = frames
@@ -36,19 +36,19 @@ jobOf (wishAt s) = wishes
 jobOf (hurtAt s) = hurts
 
 abbrev pub runAt : At → List ℕ → At
-runAt (frameAt s) bytes = frameAt (text.run s bytes)
+runAt (frameAt s) bytes = frameAt (capture.run s bytes)
 runAt (wishAt s) bytes = wishAt (wish.run s bytes)
-runAt (hurtAt s) bytes = hurtAt (text.run s bytes)
+runAt (hurtAt s) bytes = hurtAt (capture.run s bytes)
 
 abbrev pub lineAt : At → List ℕ
-lineAt (frameAt s) = text.lineAt s
+lineAt (frameAt s) = capture.lineAt s
 lineAt (wishAt s) = wish.lineAt s
 lineAt (hurtAt s) = hurt.lineAt s
 
 abbrev pub outcomeAt : At → Outcome
-outcomeAt (frameAt s) = text.outcomeAt s
+outcomeAt (frameAt s) = capture.outcomeAt s
 outcomeAt (wishAt s) = wish.outcomeAt s
-outcomeAt (hurtAt s) = text.outcomeAt s
+outcomeAt (hurtAt s) = capture.outcomeAt s
 
 -- where a run stands: the open piece, whether it has a byte yet, and the counts of the pieces before it
 pub record Point : Type 0 where
@@ -98,18 +98,18 @@ lastSaid p = cond (p .begun) (lineAt (p .piece)) []
 
 -- the point that the struct and the list of numbers hold
 abbrev pub atOf : Piece → List ℕ → At
-atOf (Frame scan) numbers = frameAt (text.stateOf scan numbers)
+atOf (Frame scan) numbers = frameAt (capture.stateOf scan numbers)
 atOf (Wish scan) numbers = wishAt (wish.stateOf scan numbers)
-atOf (Hurt scan) numbers = hurtAt (text.stateOf scan numbers)
+atOf (Hurt scan) numbers = hurtAt (capture.stateOf scan numbers)
 
 unfoldable pub pointOf : Progress → List ℕ → Point
 pointOf progress numbers = record { piece = atOf (progress .piece) numbers; begun = progress .begun; counts = progress .counts }
 
--- a struct as this crate makes it, with a list of 834 numbers
+-- a struct as this crate makes it, with a list of 837 numbers
 abbrev pub SanePiece : Piece → List ℕ → Type 0
-SanePiece (Frame scan) numbers = text.Sane scan numbers
+SanePiece (Frame scan) numbers = capture.Sane scan numbers
 SanePiece (Wish scan) numbers = wish.Sane scan numbers
-SanePiece (Hurt scan) numbers = text.Sane scan numbers
+SanePiece (Hurt scan) numbers = capture.Sane scan numbers
 
 pub record PieceHolds (a : At) (piece : Piece) (numbers : List ℕ) : Type 0 where
   pub sane : SanePiece piece numbers
@@ -119,13 +119,13 @@ pub record Stands (p : Point) (progress : Progress) (numbers : List ℕ) : Type 
   pub sane : SanePiece (progress .piece) numbers
   pub is : pointOf progress numbers ≡ p
 
--- a run at its beginning, whatever the 834 numbers are
+-- a run at its beginning, whatever the 837 numbers are
 pub record Ready (progress : Progress) : Type 0 where
-  pub sane : (numbers : List ℕ) → length numbers ≡ 834 → SanePiece (progress .piece) numbers
+  pub sane : (numbers : List ℕ) → length numbers ≡ 837 → SanePiece (progress .piece) numbers
 
 pub record Begins (job : Job) (progress : Progress) : Type 0 where
   pub ready : Ready progress
-  pub stands : (numbers : List ℕ) → length numbers ≡ 834 → Stands (begin job) progress numbers
+  pub stands : (numbers : List ℕ) → length numbers ≡ 837 → Stands (begin job) progress numbers
 
 -- the bytes from one place to another
 abbrev pub part : List ℕ → ℕ → ℕ → List ℕ

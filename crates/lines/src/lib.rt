@@ -13,11 +13,12 @@ ghost use Rattle.lines.specs.Stream.{next, fed, ended, lastSaid, startOf
 use line::Answer;
 use line::Outcome;
 
-// What was taken of the piece that is open: of a frame to be read, of a wish for one, or of a frame whose hurt symbols are asked.
+// What was taken of the piece that is open: of a capture to be read, of a wish for a frame, or of a capture whose hurt symbols
+// are asked.
 pub enum Piece {
-    Frame(text::Scan),
+    Frame(capture::Scan),
     Wish(wish::Scan),
-    Hurt(text::Scan),
+    Hurt(capture::Scan),
 }
 
 // How many texts were answered: all, accepted with no repairs, accepted with some, refused.
@@ -29,7 +30,7 @@ pub struct Counts {
 }
 
 // How far a run has come: the open piece, whether it has a byte yet, and the counts of the pieces before it. The numbers of the
-// open piece stand in a lent list of 834.
+// open piece stand in a lent list of 837.
 pub struct Progress {
     pub piece: Piece,
     pub begun: bool,
@@ -59,7 +60,7 @@ pub fn frames() -> Progress
     ensures { λ r. ⌜ Begins frameJob r ⌝ }
 {
     Progress {
-        piece: Piece::Frame(text::begin()),
+        piece: Piece::Frame(capture::begin()),
         begun: false,
         counts: nothing(),
     }
@@ -81,7 +82,7 @@ pub fn hurts() -> Progress
     ensures { λ r. ⌜ Begins hurtJob r ⌝ }
 {
     Progress {
-        piece: Piece::Hurt(text::begin()),
+        piece: Piece::Hurt(capture::begin()),
         begun: false,
         counts: nothing(),
     }
@@ -89,12 +90,12 @@ pub fn hurts() -> Progress
 
 // The next piece, of the same kind, with nothing taken.
 fn anew(piece: Piece) -> Piece
-    ensures { λ r. ⌜ ((old numbers : List ℕ) → length numbers ≡ 834 → PieceHolds (startOf (jobOf (atOf piece old))) r numbers) ⌝ }
+    ensures { λ r. ⌜ ((old numbers : List ℕ) → length numbers ≡ 837 → PieceHolds (startOf (jobOf (atOf piece old))) r numbers) ⌝ }
 {
     match piece {
-        Piece::Frame(_) => Piece::Frame(text::begin()),
+        Piece::Frame(_) => Piece::Frame(capture::begin()),
         Piece::Wish(_) => Piece::Wish(wish::begin()),
-        Piece::Hurt(_) => Piece::Hurt(text::begin()),
+        Piece::Hurt(_) => Piece::Hurt(capture::begin()),
     }
 }
 
@@ -104,9 +105,9 @@ fn feed(piece: Piece, bytes: &[u8], numbers: &mut [u16]) -> Piece
     ensures { λ r. ⌜ PieceHolds (runAt (atOf piece (now (numbers .entry))) (now (bytes .entry))) r (now (numbers .exit)) ⌝ }
 {
     match piece {
-        Piece::Frame(scan) => Piece::Frame(text::feed(scan, bytes, numbers)),
+        Piece::Frame(scan) => Piece::Frame(capture::feed(scan, bytes, numbers)),
         Piece::Wish(scan) => Piece::Wish(wish::feed(scan, bytes, numbers)),
-        Piece::Hurt(scan) => Piece::Hurt(text::feed(scan, bytes, numbers)),
+        Piece::Hurt(scan) => Piece::Hurt(capture::feed(scan, bytes, numbers)),
     }
 }
 
@@ -116,7 +117,7 @@ fn answer(piece: Piece, numbers: &mut [u16], out: &mut [u8]) -> Answer
     ensures { λ r. ⌜ Answered 17600 (lineAt (atOf piece (now (numbers .entry)))) (outcomeAt (atOf piece (now (numbers .entry)))) (now (out .entry)) (now (out .exit)) r ⌝ }
 {
     match piece {
-        Piece::Frame(scan) => text::answer(scan, numbers, out),
+        Piece::Frame(scan) => capture::answer(scan, numbers, out),
         Piece::Wish(scan) => wish::answer(scan, numbers, out),
         Piece::Hurt(scan) => hurt::answer(scan, numbers, out),
     }

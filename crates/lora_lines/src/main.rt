@@ -1,5 +1,5 @@
-// Captured frames, many in one run: standard input is cut at each byte 10, and each piece is a frame's text, answered by one
-// line, in order. An empty last piece is none.
+// Captured frames, many in one run: standard input is cut at each byte 10, and each piece is a capture, of a frame with a header
+// or without one, answered by one line, in order. An empty last piece is none.
 use libc::STDOUT_FILENO;
 use system::Asked;
 
@@ -10,7 +10,9 @@ fn help() {
 lora_lines < captures > answers
 
 Reads LoRa frames, one a line: SF, low rate (0 or 1), then the symbols, in decimal, with spaces between. Symbol numbers
-count from 0. Each line is answered by one line, in order:
+count from 0. A frame without a header has =, the agreed length, CR and checksum (0 or 1) in front:
+  = LENGTH CR CHECKSUM SF LOW SYMBOL SYMBOL ..
+Each line is answered by one line, in order:
   ok LENGTH CR CHECKSUM SYMBOLS REPAIRS PAYLOAD    payload in hex, - if empty
   no NUMBER PLACE                                  docs/REFUSALS.md says what each number means
 The last line on standard error is 'end TEXTS CLEAN REPAIRED REFUSED' if all was read and written, and else says what

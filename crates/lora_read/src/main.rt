@@ -32,7 +32,7 @@ fn take_got(got: Got, scan: Scan, buffer: &[u8], numbers: &mut [u16]) -> Turn
 
 // Takes the whole text. A proved loop has to end, so it counts its turns down from a number that no run uses up.
 fn take_all(buffer: &mut [u8], numbers: &mut [u16]) -> Turn
-    requires { ⌜ length (now numbers) ≡ 834 ⌝ }
+    requires { ⌜ length (now numbers) ≡ 837 ⌝ }
     ensures { λ r. ⌜ Finished r (now (numbers .exit)) ⌝ }
 {
     let mut scan = text::begin();

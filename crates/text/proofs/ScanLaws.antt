@@ -1,7 +1,7 @@
 -- The struct and the list of numbers hold the state that a text taken byte by byte has.
 -- Assumes nothing.
 use mathlib.Core.Path.{_≡_, refl, _∙_}
-use mathlib.Core.Bool.{Bool, true, false, not, _&&_, cond, and-false, or-true}
+use mathlib.Core.Bool.{Bool, true, false, not, _&&_, cond, and-false, or-true, and-eq-true-iff}
 use mathlib.Core.List.{List, [], _++_}
 use Prim.Native.Nat.{ℕ, _+_, _-_, _*_, _<_, _≤_}
 use native.Mathlib.Numerals.{add-one}
@@ -14,7 +14,7 @@ use Rattle.bits.specs.Bit.{isSet}
 use Rattle.bits.specs.Check.{check}
 use Rattle.bits.proofs.Truth.{check-cond}
 use Rattle.text.specs.Text.{isSeparator, isDigit, bad, frame, frameOf}
-use Rattle.text.specs.Scan.{State, start, refuse, shut, grown, step, run, ended, taken, stateOf, refusing, Sane, Holds, isFrame}
+use Rattle.text.specs.Scan.{State, start, refuse, shut, grown, step, run, ended, said, taken, stateOf, refusing, Sane, Holds, isFrame, saysFrame}
 use Rattle.text.proofs.TextLaws.{step-refused, step-shuts, step-grows, step-refuses, run-append}
 use Rattle.text.specs.declared.Scan.{Scan}
 
@@ -35,20 +35,20 @@ module _ {c : Scan} {numbers : List ℕ} where
   held : Sane c numbers → length (take (c .count) numbers) ≡ c .count
   held p = length-take-le (c .count) numbers (omega arith)
 
-  pub shut-one : Sane c numbers → (c .digits ≡ 0 → ⊥) → c .count < 834
+  pub shut-one : Sane c numbers → (c .digits ≡ 0 → ⊥) → c .count < 837
       → Holds (shut (stateOf c numbers)) (record { refused = false; digits = 0; value = 0; count = c .count + 1 }) (set numbers (c .count) (c .value))
   unfolding stateOf shut
   shut-one p n h =
       record {
         sane = record { few = omega arith; small = omega arith; placed = omega arith; long = length-set numbers (c .count) (c .value) ∙ p .long };
-        is = rw (ne-eqb (c .digits) 0 n, held p, lt-ltb (c .count) 834 h, add-one (c .count), take-suc-set numbers (c .count) (c .value) (omega arith));
+        is = rw (ne-eqb (c .digits) 0 n, held p, lt-ltb (c .count) 837 h, add-one (c .count), take-suc-set numbers (c .count) (c .value) (omega arith));
       }
 
-  shut-refuses : Sane c numbers → (c .digits ≡ 0 → ⊥) → 834 ≤ c .count → refuse (stateOf c numbers) ≡ shut (stateOf c numbers)
+  shut-refuses : Sane c numbers → (c .digits ≡ 0 → ⊥) → 837 ≤ c .count → refuse (stateOf c numbers) ≡ shut (stateOf c numbers)
   unfolding stateOf shut
-  shut-refuses p n h = rw (ne-eqb (c .digits) 0 n, held p, le-ltb (c .count) 834 h)
+  shut-refuses p n h = rw (ne-eqb (c .digits) 0 n, held p, le-ltb (c .count) 837 h)
 
-  pub shut-full : Sane c numbers → (c .digits ≡ 0 → ⊥) → 834 ≤ c .count → Holds (shut (stateOf c numbers)) (refusing c) numbers
+  pub shut-full : Sane c numbers → (c .digits ≡ 0 → ⊥) → 837 ≤ c .count → Holds (shut (stateOf c numbers)) (refusing c) numbers
   shut-full p n h = rw (← shut-refuses p n h) (holds-refused p)
 
   -- a digit more: it fits, there are too many digits, the value is too large
@@ -94,12 +94,15 @@ below-digits b h = rw (lt-leb 48 b h)
 pub above-digits : (b : ℕ) → leb b 57 ≡ false → isDigit b ≡ false
 above-digits b e = rw e (and-false (leb 48 b))
 
--- whether it is a frame: too few numbers, the second decides
-pub frame-few : (c : Scan) (numbers : List ℕ) → c .refused ≡ false → c .count < 2 → false ≡ isFrame c numbers
-frame-few c numbers e h = rw (e, lt-leb 2 (c .count) h)
+-- whether numbers are a frame: too few, too many, the second decides
+pub frame-few : (numbers : List ℕ) → length numbers < 2 → false ≡ isFrame numbers
+frame-few numbers h = rw (lt-leb 2 (length numbers) h)
 
-pub frame-rate : (c : Scan) (numbers : List ℕ) → c .refused ≡ false → 2 ≤ c .count → leb (getD numbers 1 0) 1 ≡ isFrame c numbers
-frame-rate c numbers e h = rw (e, le-leb 2 (c .count) h)
+pub frame-many : (numbers : List ℕ) → 834 < length numbers → false ≡ isFrame numbers
+frame-many numbers h = rw (lt-leb (length numbers) 834 h, and-false (leb 2 (length numbers)))
+
+pub frame-rate : (numbers : List ℕ) → 2 ≤ length numbers → length numbers ≤ 834 → leb (getD numbers 1 0) 1 ≡ isFrame numbers
+frame-rate numbers h l = rw (le-leb 2 (length numbers) h, le-leb (length numbers) 834 l)
 
 -- the text's end: it is bad already, it shuts the open number
 ended-refused : (s : State) → s .refused ≡ true → ended s ≡ s
@@ -137,7 +140,7 @@ module _ {d : Scan} {later : List ℕ} (c : Scan) (numbers : List ℕ) where
   byte-refuses b e q t h = rw (step-refuses (stateOf c numbers) b (refused-is c numbers ∙ e) q t) h
 
 -- a struct of the beginning: nothing of the text is taken
-pub holds-start : (c : Scan) (numbers : List ℕ) → c .refused ≡ false → c .digits ≡ 0 → c .value ≡ 0 → c .count ≡ 0 → length numbers ≡ 834 → Holds (run start []) c numbers
+pub holds-start : (c : Scan) (numbers : List ℕ) → c .refused ≡ false → c .digits ≡ 0 → c .value ≡ 0 → c .count ≡ 0 → length numbers ≡ 837 → Holds (run start []) c numbers
 unfolding stateOf start run
 holds-start c numbers r d v n l =
     record {
@@ -150,19 +153,35 @@ pub holds-piece : {c d : Scan} {numbers later : List ℕ} (bytes piece : List �
     → Holds (run (stateOf c numbers) piece) d later → Holds (run start (bytes ++ piece)) d later
 holds-piece bytes piece p q = rw (← run-append start bytes piece, ← p .is) q
 
+-- what numbers say, by the test
+pub frame-said : (numbers : List ℕ) → frameOf numbers ≡ cond (isFrame numbers) (frame (getD numbers 0 0) (isSet (getD numbers 1 0)) (drop 2 numbers)) bad
+unfolding frameOf
+frame-said numbers = go (leb 2 (length numbers)) (leb (length numbers) 834) (leb (getD numbers 1 0) 1)
+  where
+    go : (t u v : Bool)
+        → check t bad (check u bad (check v bad (frame (getD numbers 0 0) (isSet (getD numbers 1 0)) (drop 2 numbers))))
+        ≡ cond (t && (u && v)) (frame (getD numbers 0 0) (isSet (getD numbers 1 0)) (drop 2 numbers)) bad
+    go true true v = check-cond v bad _
+    go true false v = refl
+    go false u v = refl
+
+-- numbers that are a frame are two at least
+pub frame-two : (numbers : List ℕ) → isFrame numbers ≡ true → 2 ≤ length numbers
+frame-two numbers e = leb-true 2 (length numbers) (and-eq-true-iff (leb 2 (length numbers)) _ .0 e .0)
+
 -- what a text that has ended is, by the struct and the list
 pub frame-is : {c : Scan} {numbers : List ℕ} (s : State) → Holds (ended s) c numbers
-    → taken s ≡ cond (isFrame c numbers) (frame (getD numbers 0 0) (isSet (getD numbers 1 0)) (drop 2 (take (c .count) numbers))) bad
-unfolding taken stateOf frameOf
-frame-is {c} {numbers} s p =
-    rw (← p .is, held (p .sane), le-leb (c .count) 834 (p .sane .placed))
-    (go (c .refused) (leb 2 (c .count)) refl)
+    → taken s ≡ cond (saysFrame c numbers) (frame (getD numbers 0 0) (isSet (getD numbers 1 0)) (drop 2 (take (c .count) numbers))) bad
+unfolding taken said stateOf
+frame-is {c} {numbers} s p = rw (← p .is) (go (c .refused) (isFrame (take (c .count) numbers)) refl)
   where
-    go : (r t : Bool) → leb 2 (c .count) ≡ t
-        → cond r bad (check t bad (check (leb (getD (take (c .count) numbers) 1 0) 1) bad (frame (getD (take (c .count) numbers) 0 0) (isSet (getD (take (c .count) numbers) 1 0)) (drop 2 (take (c .count) numbers)))))
-        ≡ cond (not r && (t && leb (getD numbers 1 0) 1)) (frame (getD numbers 0 0) (isSet (getD numbers 1 0)) (drop 2 (take (c .count) numbers))) bad
+    front : List ℕ
+    front = take (c .count) numbers
+
+    go : (r t : Bool) → isFrame front ≡ t → cond r bad (frameOf front)
+        ≡ cond (not r && t) (frame (getD numbers 0 0) (isSet (getD numbers 1 0)) (drop 2 front)) bad
     go true t e = refl
-    go false false e = refl
+    go false false e = frame-said front ∙ rw e
     go false true e =
-        let h : 2 ≤ c .count = leb-true 2 (c .count) e in
-        rw (getD-take (c .count) numbers 1 0 (omega arith), getD-take (c .count) numbers 0 0 (omega arith)) (check-cond (leb (getD numbers 1 0) 1) bad _)
+        let two : 2 ≤ c .count = omega (arith, frame-two front e, held (p .sane)) in
+        frame-said front ∙ rw (e, getD-take (c .count) numbers 1 0 (omega arith), getD-take (c .count) numbers 0 0 (omega arith))

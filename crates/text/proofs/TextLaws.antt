@@ -10,10 +10,11 @@ use native.Mathlib.Omega.{arith}
 use borrow.Author.Tests.{le-leb, lt-leb, eq-eqb, ne-eqb, ltb-true, ltb-false, leb-true}
 use lib.Dec.{leb, ltb}
 use lib.ListN.{length, length-append, length-map}
+use Rattle.bits.specs.Check.{check}
 use Rattle.bits.proofs.Lists.{length-more}
 use Rattle.bits.proofs.Truth.{refuted, check-same}
 use Rattle.text.specs.Text.{isSeparator, isDigit, closed, wordsFrom, all, withDigit, valueOf, isNumber, bad, frameOf, textOf}
-use Rattle.text.specs.Scan.{State, start, refuse, shut, grown, step, run, ended, taken}
+use Rattle.text.specs.Scan.{State, start, refuse, shut, grown, step, run, ended, said, taken}
 
 -- a test of each in a list, with more behind it
 module _ {A : Type 0} (p : A → Bool) where
@@ -44,7 +45,7 @@ unfolding isNumber
 is-number word n = rw (n .digits, le-leb _ _ (n .few), le-leb _ _ (n .small))
 
 -- one byte more at a word's end
-value-more : (word : List ℕ) (b : ℕ) → valueOf (word ++ (b ∷ [])) ≡ valueOf word * 10 + (b - 48)
+pub value-more : (word : List ℕ) (b : ℕ) → valueOf (word ++ (b ∷ [])) ≡ valueOf word * 10 + (b - 48)
 unfolding valueOf
 value-more word b = foldl-append withDigit 0 word (b ∷ [])
 
@@ -77,7 +78,7 @@ closed-one [] h = absurd (omega arith)
 closed-one (b ∷ word) h = refl
 
 -- a word that is no number grows into none
-spoiled : (word bs : List ℕ) → 0 < length word → isNumber word ≡ false → all isNumber (wordsFrom word bs) ≡ false
+pub spoiled : (word bs : List ℕ) → 0 < length word → isNumber word ≡ false → all isNumber (wordsFrom word bs) ≡ false
 unfolding wordsFrom all
 spoiled word [] h p = rw (closed-one word h, p)
 spoiled word (b ∷ bs) h p = go (isSeparator b) (spoiled (word ++ (b ∷ [])) bs (omega (arith, length-more word b)) (spoiled-more word b p))
@@ -87,19 +88,10 @@ spoiled word (b ∷ bs) h p = go (isSeparator b) (spoiled (word ++ (b ∷ [])) b
     go true later = rw (closed-one word h, p)
     go false later = later
 
-text-spoiled : (xs ys : List (List ℕ)) → all isNumber ys ≡ false → textOf (xs ++ ys) ≡ bad
-unfolding textOf
-text-spoiled xs ys p = rw (all-append isNumber xs ys, p, and-false (all isNumber xs))
-
 -- more than 834 numbers are no frame
-crowd : (numbers : List ℕ) → 834 < length numbers → frameOf numbers ≡ bad
+pub crowd : (numbers : List ℕ) → 834 < length numbers → frameOf numbers ≡ bad
 unfolding frameOf
 crowd numbers h = rw (le-leb 2 (length numbers) (omega arith), lt-leb (length numbers) 834 h)
-
-text-crowd : (xs ys : List (List ℕ)) → 834 < length xs → textOf (xs ++ ys) ≡ bad
-unfolding textOf
-text-crowd xs ys h =
-    check-same (all isNumber (xs ++ ys)) (crowd (map valueOf (xs ++ ys)) (omega (arith, length-map (xs ++ ys) valueOf, length-append xs ys)))
 
 -- one byte: the text is bad already, a separator, a digit, another
 pub step-refused : (s : State) (b : ℕ) → s .refused ≡ true → step s b ≡ s
@@ -124,25 +116,12 @@ unfolding run
 run-refused s [] p = refl
 run-refused s (b ∷ bs) p = rw (step-refused s b p) (run-refused s bs p)
 
-taken-refused : (s : State) (bs : List ℕ) → s .refused ≡ true → taken (run s bs) ≡ bad
-unfolding taken ended
-taken-refused s bs p = rw (run-refused s bs p, p)
-
--- what was taken, by the open number's end
-taken-shut : (s : State) → s .refused ≡ false → taken s ≡ cond (shut s .refused) bad (frameOf (shut s .numbers))
-unfolding taken ended
-taken-shut s p = rw p
-
-text-good : (words : List (List ℕ)) → all isNumber words ≡ true → textOf words ≡ frameOf (map valueOf words)
-unfolding textOf
-text-good words p = rw p
-
 -- a state that has the words done behind it and the word open
 pub record Stands (s : State) (done : List (List ℕ)) (word : List ℕ) : Type 0 where
   pub going : s .refused ≡ false
   pub held : s .numbers ≡ map valueOf done
   pub good : all isNumber done ≡ true
-  room : length done ≤ 834
+  room : length done ≤ 837
   digits : s .digits ≡ length word
   value : s .value ≡ valueOf word
   number : Number word
@@ -153,12 +132,12 @@ none-open = record { few = omega arith; digits = refl; small = omega arith }
 
 -- the open word ends, or there are too many
 pub shut-stands : {s : State} {done : List (List ℕ)} (word : List ℕ) → Stands s done word
-    → Stands (shut s) (done ++ closed word) [] ⊎ ((shut s .refused ≡ true) × (834 < length (done ++ closed word)))
+    → Stands (shut s) (done ++ closed word) [] ⊎ ((shut s .refused ≡ true) × (837 < length (done ++ closed word)))
 unfolding shut closed refuse all valueOf
 shut-stands {s} {done} [] p = inl (rw (eq-eqb (s .digits) 0 (p .digits), append-nil done) p)
 shut-stands {s} {done} (a ∷ word) p =
     rw (ne-eqb (s .digits) 0 (λ e. omega (arith, p .digits)))
-    (go (ltb (length (s .numbers)) 834) refl)
+    (go (ltb (length (s .numbers)) 837) refl)
   where
     long : length (s .numbers) ≡ length done
     long = ap length (p .held) ∙ length-map done valueOf
@@ -175,11 +154,11 @@ shut-stands {s} {done} (a ∷ word) p =
     after : Bool → State
     after t = cond t (record { refused = false; digits = 0; value = 0; numbers = s .numbers ++ (s .value ∷ []) }) (refuse s)
 
-    go : (t : Bool) → ltb (length (s .numbers)) 834 ≡ t
-        → Stands (after t) (done ++ ((a ∷ word) ∷ [])) [] ⊎ ((after t .refused ≡ true) × (834 < length (done ++ ((a ∷ word) ∷ []))))
+    go : (t : Bool) → ltb (length (s .numbers)) 837 ≡ t
+        → Stands (after t) (done ++ ((a ∷ word) ∷ [])) [] ⊎ ((after t .refused ≡ true) × (837 < length (done ++ ((a ∷ word) ∷ []))))
     go true q =
-        inl (record { going = refl; held = next; good = every; room = omega (arith, ltb-true (length (s .numbers)) 834 q, long, more); digits = refl; value = refl; number = none-open })
-    go false q = inr (refl, omega (arith, ltb-false (length (s .numbers)) 834 q, long, more))
+        inl (record { going = refl; held = next; good = every; room = omega (arith, ltb-true (length (s .numbers)) 837 q, long, more); digits = refl; value = refl; number = none-open })
+    go false q = inr (refl, omega (arith, ltb-false (length (s .numbers)) 837 q, long, more))
 
 -- a byte that is no separator
 pub word-more : {s : State} {done : List (List ℕ)} {word : List ℕ} (b : ℕ) → Stands s done word → isSeparator b ≡ false
@@ -203,38 +182,79 @@ word-more {s} {done} {word} b p n = rw (p .going, n) (go (isDigit b) refl)
     go true q = grow _ (rw q at by)
     go false q = inr (refl, rw q at by)
 
--- the text from a state on
-scan-from : (bs : List ℕ) {s : State} {done : List (List ℕ)} {word : List ℕ} → Stands s done word → taken (run s bs) ≡ textOf (done ++ wordsFrom word bs)
-unfolding run wordsFrom
-scan-from [] {s} {done} {word} p = ⊎-elim there full (shut-stands word p)
-  where
-    there : Stands (shut s) (done ++ closed word) [] → taken s ≡ textOf (done ++ closed word)
-    there q = taken-shut s (p .going) ∙ rw (q .going, q .held) (sym (text-good (done ++ closed word) (q .good)))
-
-    full : (shut s .refused ≡ true) × (834 < length (done ++ closed word)) → taken s ≡ textOf (done ++ closed word)
-    full q = taken-shut s (p .going) ∙ rw (q .0) (sym (text-crowd (done ++ closed word) [] (q .1)) ∙ ap textOf (append-nil (done ++ closed word)))
-scan-from (b ∷ bs) {s} {done} {word} p = go (isSeparator b) refl (λ q. scan-from bs q) (λ q. scan-from bs q)
-  where
-    go : (t : Bool) → isSeparator b ≡ t
-        → (Stands (step s b) (done ++ closed word) [] → taken (run (step s b) bs) ≡ textOf (done ++ closed word ++ wordsFrom [] bs))
-        → (Stands (step s b) done (word ++ (b ∷ [])) → taken (run (step s b) bs) ≡ textOf (done ++ wordsFrom (word ++ (b ∷ [])) bs))
-        → taken (run (step s b) bs) ≡ textOf (done ++ cond t (closed word ++ wordsFrom [] bs) (wordsFrom (word ++ (b ∷ [])) bs))
-    go true e next on =
-        let is : step s b ≡ shut s = step-shuts s b (p .going) e in
-        rw (← append-assoc done (closed word) (wordsFrom [] bs))
-        (⊎-elim (λ q. next (rw is q)) (λ q. taken-refused (step s b) bs (rw is (q .0)) ∙ sym (text-crowd (done ++ closed word) (wordsFrom [] bs) (q .1))) (shut-stands word p))
-    go false e next on =
-        ⊎-elim on (λ q. taken-refused (step s b) bs (q .0) ∙ sym (text-spoiled done _ (spoiled (word ++ (b ∷ [])) bs (omega (arith, length-more word b)) (q .1))))
-        (word-more b p e)
-
 -- nothing taken yet
 pub stands-start : Stands start [] []
 unfolding start all valueOf
 stands-start = record { going = refl; held = refl; good = refl; room = omega arith; digits = refl; value = refl; number = none-open }
 
+-- words by what their numbers say; where one is no number they say something of their own
+module _ {A : Type 0} (refusal : A) (meaning : List ℕ → A) where
+  unfoldable pub meant : List (List ℕ) → A
+  meant words = check (all isNumber words) refusal (meaning (map valueOf words))
+
+  meant-good : (words : List (List ℕ)) → all isNumber words ≡ true → meant words ≡ meaning (map valueOf words)
+  unfolding meant
+  meant-good words p = rw p
+
+  meant-spoiled : (xs ys : List (List ℕ)) → all isNumber ys ≡ false → meant (xs ++ ys) ≡ refusal
+  unfolding meant
+  meant-spoiled xs ys p = rw (all-append isNumber xs ys, p, and-false (all isNumber xs))
+
+  -- a text that is bad already, and one whose open number ends
+  said-refused : (s : State) (bs : List ℕ) → s .refused ≡ true → said refusal meaning (ended (run s bs)) ≡ refusal
+  unfolding said ended
+  said-refused s bs p = rw (run-refused s bs p, p)
+
+  said-shut : (s : State) → s .refused ≡ false → said refusal meaning (ended s) ≡ said refusal meaning (shut s)
+  unfolding ended
+  said-shut s p = rw p
+
+  said-good : {s : State} {done : List (List ℕ)} → Stands s done [] → said refusal meaning s ≡ meant done
+  unfolding said
+  said-good {s} {done} q = rw (q .going, q .held) (sym (meant-good done (q .good)))
+
+  said-full : (s : State) → s .refused ≡ true → said refusal meaning s ≡ refusal
+  unfolding said
+  said-full s p = rw p
+
+  -- where more numbers than there is place for say what a bad text says, a text taken byte by byte says what its words say
+  module _ (crowded : (numbers : List ℕ) → 837 < length numbers → meaning numbers ≡ refusal) where
+    meant-crowd : (xs ys : List (List ℕ)) → 837 < length xs → meant (xs ++ ys) ≡ refusal
+    unfolding meant
+    meant-crowd xs ys h =
+        check-same (all isNumber (xs ++ ys)) (crowded (map valueOf (xs ++ ys)) (omega (arith, length-map (xs ++ ys) valueOf, length-append xs ys)))
+
+    scan-from : (bs : List ℕ) {s : State} {done : List (List ℕ)} {word : List ℕ} → Stands s done word → said refusal meaning (ended (run s bs)) ≡ meant (done ++ wordsFrom word bs)
+    unfolding run wordsFrom
+    scan-from [] {s} {done} {word} p =
+        said-shut s (p .going)
+        ∙ ⊎-elim (λ q. said-good q) (λ q. said-full (shut s) (q .0) ∙ sym (meant-crowd (done ++ closed word) [] (q .1)) ∙ ap meant (append-nil (done ++ closed word)))
+        (shut-stands word p)
+    scan-from (b ∷ bs) {s} {done} {word} p = go (isSeparator b) refl (λ q. scan-from bs q) (λ q. scan-from bs q)
+      where
+        later : A
+        later = said refusal meaning (ended (run (step s b) bs))
+
+        go : (t : Bool) → isSeparator b ≡ t
+            → (Stands (step s b) (done ++ closed word) [] → later ≡ meant (done ++ closed word ++ wordsFrom [] bs))
+            → (Stands (step s b) done (word ++ (b ∷ [])) → later ≡ meant (done ++ wordsFrom (word ++ (b ∷ [])) bs))
+            → later ≡ meant (done ++ cond t (closed word ++ wordsFrom [] bs) (wordsFrom (word ++ (b ∷ [])) bs))
+        go true e next on =
+            let is : step s b ≡ shut s = step-shuts s b (p .going) e in
+            rw (← append-assoc done (closed word) (wordsFrom [] bs))
+            (⊎-elim (λ q. next (rw is q)) (λ q. said-refused (step s b) bs (rw is (q .0)) ∙ sym (meant-crowd (done ++ closed word) (wordsFrom [] bs) (q .1))) (shut-stands word p))
+        go false e next on =
+            ⊎-elim on (λ q. said-refused (step s b) bs (q .0) ∙ sym (meant-spoiled done _ (spoiled (word ++ (b ∷ [])) bs (omega (arith, length-more word b)) (q .1))))
+            (word-more b p e)
+
+    -- a whole text
+    pub scanned-as : (bytes : List ℕ) → said refusal meaning (ended (run start bytes)) ≡ meant (wordsFrom [] bytes)
+    scanned-as bytes = scan-from bytes stands-start
+
 -- scanning a whole text gives the text
 pub scanned : (bytes : List ℕ) → taken (run start bytes) ≡ textOf (wordsFrom [] bytes)
-scanned bytes = scan-from bytes stands-start
+unfolding taken textOf meant
+scanned bytes = scanned-as bad frameOf (λ numbers h. crowd numbers (omega arith)) bytes
 
 -- a text in two pieces
 pub run-append : (s : State) (xs ys : List ℕ) → run (run s xs) ys ≡ run s (xs ++ ys)

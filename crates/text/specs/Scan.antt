@@ -24,11 +24,11 @@ start = record { refused = false; digits = 0; value = 0; numbers = [] }
 unfoldable pub refuse : State → State
 refuse s = record { refused = true; digits = s .digits; value = s .value; numbers = s .numbers }
 
--- the open number ends: there is place for 834
+-- the open number ends: there is place for 837
 unfoldable pub shut : State → State
 shut s =
     cond (eqb (s .digits) 0) s
-    (cond (ltb (length (s .numbers)) 834)
+    (cond (ltb (length (s .numbers)) 837)
     (record { refused = false; digits = 0; value = 0; numbers = s .numbers ++ (s .value ∷ []) })
     (refuse s))
 
@@ -52,9 +52,14 @@ run s bytes = foldl step s bytes
 unfoldable pub ended : State → State
 ended s = cond (s .refused) s (shut s)
 
+-- what a text that has ended says, by what its numbers do; a bad one says something of its own
+module _ {A : Type 0} where
+  unfoldable pub said : A → (List ℕ → A) → State → A
+  said refusal meaning s = cond (s .refused) refusal (meaning (s .numbers))
+
 -- the text that was taken, at its end
 unfoldable pub taken : State → Text
-taken s = cond (ended s .refused) bad (frameOf (ended s .numbers))
+taken s = said bad frameOf (ended s)
 
 -- what a text that ends in this state is answered, and how
 unfoldable pub lineAt : State → List ℕ
@@ -71,18 +76,22 @@ stateOf c numbers = record { refused = c .refused; digits = c .digits; value = c
 abbrev pub refusing : Scan → Scan
 refusing c = record { refused = true; digits = c .digits; value = c .value; count = c .count }
 
--- a struct as scanning makes it, with a list of 834 numbers
+-- a struct as scanning makes it, with a list of 837 numbers
 pub record Sane (c : Scan) (numbers : List ℕ) : Type 0 where
   pub few : c .digits ≤ 5
   pub small : c .value ≤ 65535
-  pub placed : c .count ≤ 834
-  pub long : length numbers ≡ 834
+  pub placed : c .count ≤ 837
+  pub long : length numbers ≡ 837
 
 -- the struct and the list hold the state s
 pub record Holds (s : State) (c : Scan) (numbers : List ℕ) : Type 0 where
   pub sane : Sane c numbers
   pub is : stateOf c numbers ≡ s
 
--- whether a text that has ended is a frame: its first two numbers are there, and the second is 0 or 1
-abbrev pub isFrame : Scan → List ℕ → Bool
-isFrame c numbers = not (c .refused) && (leb 2 (c .count) && leb (getD numbers 1 0) 1)
+-- whether numbers are a frame: two or more, no more than a frame has, and the second is 0 or 1
+abbrev pub isFrame : List ℕ → Bool
+isFrame numbers = leb 2 (length numbers) && (leb (length numbers) 834 && leb (getD numbers 1 0) 1)
+
+-- whether a text that has ended is a frame
+abbrev pub saysFrame : Scan → List ℕ → Bool
+saysFrame c numbers = not (c .refused) && isFrame (take (c .count) numbers)

@@ -12,6 +12,8 @@ use Rattle.line.specs.Line.{lineOf}
 use Rattle.line.specs.Outcome.{outcomeOf}
 use Rattle.line.specs.declared.Outcome.{Outcome}
 use Rattle.lora.specs.Read.{readOf, bytesAfter}
+use Rattle.lora.specs.declared.Expected.{Expected}
+use Rattle.lora.specs.declared.Expected.the-variants.{Explicit}
 use Rattle.lora.specs.declared.Received.{Received}
 use Rattle.lora.specs.declared.Received.the-variants.{Payload, Refused}
 
@@ -72,13 +74,13 @@ payloadIn (Payload a) cells = take (a .length) cells
 payloadIn (Refused number place) cells = []
 
 -- the line for what read answers, into 255 cells and a list of 832
-abbrev pub lineFor : ℕ → Bool → List ℕ → Received → List ℕ
-lineFor sf low symbols r = lineOf r (payloadIn r (bytesAfter r sf low symbols (blank 255 0)))
+abbrev pub lineFor : ℕ → Bool → Expected → List ℕ → Received → List ℕ
+lineFor sf low expected symbols r = lineOf r (payloadIn r (bytesAfter r sf low expected symbols (blank 255 0)))
 
--- the line that answers a text; any text that can't be taken is refusal 14
+-- the line that answers a text, whose frame has a header; any text that can't be taken is refusal 14
 abbrev pub answerTo : Text → List ℕ
 answerTo bad = lineOf (Refused 14 0) []
-answerTo (frame sf low symbols) = lineFor sf low symbols (readOf sf low symbols 255 832)
+answerTo (frame sf low symbols) = lineFor sf low Explicit symbols (readOf sf low Explicit symbols 255 832)
 
 unfoldable pub answerOf : List ℕ → List ℕ
 answerOf bytes = answerTo (textOf (wordsFrom [] bytes))
@@ -86,7 +88,7 @@ answerOf bytes = answerTo (textOf (wordsFrom [] bytes))
 -- how a text is answered: accepted with no repairs, with some, or refused
 abbrev pub outcomeTo : Text → Outcome
 outcomeTo bad = outcomeOf (Refused 14 0)
-outcomeTo (frame sf low symbols) = outcomeOf (readOf sf low symbols 255 832)
+outcomeTo (frame sf low symbols) = outcomeOf (readOf sf low Explicit symbols 255 832)
 
 unfoldable pub outcomeIs : List ℕ → Outcome
 outcomeIs bytes = outcomeTo (textOf (wordsFrom [] bytes))

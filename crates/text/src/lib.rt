@@ -7,17 +7,21 @@ ghost use Rattle.bits.specs.Tab.{placed};
 ghost use Rattle.line.specs.Line.{lineOf};
 ghost use Rattle.line.specs.Outcome.{Answered, outcomeOf};
 ghost use Rattle.text.specs.Answer.{Shown, narrowed};
-ghost use Rattle.text.specs.Scan.{Sane, Holds, step, grown, shut, run, ended, stateOf, refusing, isFrame, lineAt, outcomeAt};
+ghost use Rattle.text.specs.Scan.{Sane, Holds, step, grown, shut, run, ended, stateOf, refusing, isFrame, saysFrame, lineAt, outcomeAt};
 ghost use Rattle.text.specs.Text.{frame, payloadIn, answerTo, outcomeTo};
 use layout::LONGEST;
 use layout::MOST_SYMBOLS;
 use line::Answer;
+use lora::Expected;
 use lora::Received;
 
 // The most numbers that a text has: SF, the low-rate flag and a frame's symbols.
-pub const NUMBERS: usize = 834;
+const MOST: usize = 834;
 
-// How far a text was taken; the numbers before stand in a lent list of 834.
+// The numbers that there is place for. A frame without a header has three in front of its text.
+pub const NUMBERS: usize = 837;
+
+// How far a text was taken; the numbers before stand in a lent list of 837.
 pub struct Scan {
     pub refused: bool,
     pub digits: usize,
@@ -49,7 +53,7 @@ fn refused(scan: Scan) -> Scan
     }
 }
 
-// The open number, if any, goes behind the others; there is place for 834.
+// The open number, if any, goes behind the others; there is place for 837.
 fn close_number(scan: Scan, numbers: &mut [u16]) -> Scan
     requires { ⌜ Sane scan (now numbers) ⌝ }
     requires { ⌜ scan .refused ≡ false ⌝ }
@@ -129,18 +133,29 @@ pub fn finish(scan: Scan, numbers: &mut [u16]) -> Scan
     close_number(scan, numbers)
 }
 
-// Whether a text that has ended is a frame: SF, low rate 0 or 1, symbols.
-pub fn is_frame(scan: Scan, numbers: &[u16]) -> bool
-    requires { ⌜ 2 ≤ length (now numbers) ⌝ }
-    ensures { λ r. ⌜ r ≡ isFrame scan (now (numbers .entry)) ⌝ }
+// Whether numbers are a frame: SF, low rate 0 or 1, symbols.
+pub fn is_frame(numbers: &[u16]) -> bool
+    ensures { λ r. ⌜ r ≡ isFrame (now (numbers .entry)) ⌝ }
 {
-    if scan.refused {
+    if numbers.len() < 2 {
         return false;
     }
-    if scan.count < 2 {
+    if numbers.len() > MOST {
         return false;
     }
     numbers[1] <= 1
+}
+
+// Whether a text that has ended is a frame.
+fn says_frame(scan: Scan, numbers: &[u16]) -> bool
+    requires { ⌜ scan .count ≤ length (now numbers) ⌝ }
+    ensures { λ r. ⌜ r ≡ saysFrame scan (now (numbers .entry)) ⌝ }
+{
+    let count = scan.count;
+    if scan.refused {
+        return false;
+    }
+    is_frame(&numbers[..count])
 }
 
 // SF as the operations take it: what does not fit a byte is no spreading factor, and 255 is none either.
@@ -164,7 +179,7 @@ fn line_for(received: Received, payload: [u8; LONGEST], out: &mut [u8]) -> usize
 }
 
 // The line, and how the text was answered.
-fn answer_with(received: Received, payload: [u8; LONGEST], out: &mut [u8]) -> Answer
+pub fn answer_with(received: Received, payload: [u8; LONGEST], out: &mut [u8]) -> Answer
     requires { ⌜ Shown received × (640 ≤ length (now out)) ⌝ }
     ensures { λ r. ⌜ Answered 640 (lineOf received (payloadIn received payload)) (outcomeOf received) (now (out .entry)) (now (out .exit)) r ⌝ }
 {
@@ -181,7 +196,14 @@ fn answer_frame(sf: u16, low: bool, symbols: &[u16], out: &mut [u8]) -> Answer
 {
     let mut payload = [0u8; LONGEST];
     let mut hurts = [0u8; MOST_SYMBOLS];
-    let received = lora::read(narrow(sf), low, symbols, &mut payload, &mut hurts);
+    let received = lora::read(
+        narrow(sf),
+        low,
+        Expected::Explicit,
+        symbols,
+        &mut payload,
+        &mut hurts,
+    );
     answer_with(received, payload, out)
 }
 
@@ -192,7 +214,7 @@ pub fn answer(scan: Scan, numbers: &mut [u16], out: &mut [u8]) -> Answer
 {
     let done = finish(scan, numbers);
     let count = done.count;
-    if !is_frame(done, numbers) {
+    if !says_frame(done, numbers) {
         return answer_with(
             Received::Refused {
                 number: refusal::BAD_TEXT,

@@ -2,4 +2,5 @@ pub mod AnswerLaws
 pub mod HexLaws
 pub mod PayloadLaws
 pub mod ScanLaws
+pub mod TakenLaws
 pub mod WishLaws

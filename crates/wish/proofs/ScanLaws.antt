@@ -1,6 +1,6 @@
 -- The struct and the list of numbers hold the state that a wish taken byte by byte has.
 -- Assumes nothing.
-use mathlib.Core.Path.{_≡_, refl, sym, ap, _∙_}
+use mathlib.Core.Path.{_≡_, refl, sym, _∙_}
 use mathlib.Core.Bool.{Bool, true, false, _&&_, cond, and-false}
 use mathlib.Core.List.{List, [], _∷_, _++_, append-nil, foldl-append}
 use Prim.Native.Nat.{ℕ, _+_, _-_, _*_, _<_, _≤_}
@@ -11,12 +11,16 @@ use lib.Dec.{leb, ltb, eqb}
 use lib.ListN.{length, take, set, length-set, length-append}
 use lib.Seq.{length-take-le, take-all, take-at, take-set-le, getD-set-same, getD-set-other}
 use Rattle.bits.specs.Tab.{tab}
+use Rattle.bits.proofs.Searches.{asBit-le}
 use Rattle.bits.proofs.Tabs.{length-tab, tab-cong}
+use Rattle.capture.specs.Capture.{isMark}
+use Rattle.capture.specs.Scan as head
+use Rattle.capture.specs.declared.Scan as heads
+use Rattle.capture.proofs.ScanLaws.{holds-start as head-start}
 use Rattle.text.specs.Text.{isSeparator, isDigit}
-use Rattle.text.specs.Scan as head
-use Rattle.text.specs.declared.Scan as heads
+use Rattle.text.specs.Scan as text
 use Rattle.wish.specs.Wish.{isHex, hexValue}
-use Rattle.wish.specs.Scan.{State, start, nextWord, added, headed, worded, step, run, byteIn, stateOf, highOf, Sane, Holds, Begun, Kept}
+use Rattle.wish.specs.Scan.{State, start, nextWord, added, front, headed, worded, step, run, byteIn, stateOf, highOf, Sane, Holds, Begun, Kept}
 use Rattle.wish.specs.declared.Scan.{Scan}
 use Rattle.wish.specs.declared.Word.{Word}
 use Rattle.wish.specs.declared.Word.the-variants.{Before}
@@ -54,89 +58,109 @@ module _ {numbers : List ℕ} (word : Word) (b n : ℕ) where
 
   -- one more is kept
   pub keep-one : {high low : ℕ} → high ≡ highOf word → isHex b ≡ true → low ≡ hexValue b → high < 16 → low < 16
-      → n < 256 → length numbers ≡ 834 → Kept word b n numbers (set numbers (4 + n) (high * 16 + low)) (n + 1)
+      → n < 256 → length numbers ≡ 837 → Kept word b n numbers (set numbers (5 + n) (high * 16 + low)) (n + 1)
   unfolding tab byteIn
   keep-one {high} {low} e x v h l m long =
       record {
-        front = λ i k. take-set-le i numbers (4 + n) (high * 16 + low) (omega arith);
+        front = λ i k. take-set-le i numbers (5 + n) (high * 16 + low) (omega arith);
         is = rw (add-one n, tab-cong n (byteIn later) (byteIn numbers) others, here, added-one word b (rw e at h) x, ← e, ← v) (sym (take-all 256 (tab n (byteIn numbers) ++ ((high * 16 + low) ∷ [])) (rw length-append (rw length-tab (omega arith)))));
         few = omega arith;
-        long = length-set numbers (4 + n) (high * 16 + low);
+        long = length-set numbers (5 + n) (high * 16 + low);
       }
     where
       later : List ℕ
-      later = set numbers (4 + n) (high * 16 + low)
+      later = set numbers (5 + n) (high * 16 + low)
 
       others : (i : ℕ) → i < n → byteIn later i ≡ byteIn numbers i
-      others i k = rw (getD-set-other numbers (4 + n) (4 + i) (high * 16 + low) 0 (λ q. omega arith))
+      others i k = rw (getD-set-other numbers (5 + n) (5 + i) (high * 16 + low) 0 (λ q. omega arith))
 
       here : byteIn later n ≡ high * 16 + low
-      here = rw (getD-set-same numbers (4 + n) (high * 16 + low) 0 (omega arith)) (omega arith)
+      here = rw (getD-set-same numbers (5 + n) (high * 16 + low) 0 (omega arith)) (omega arith)
 
 -- one number more at most
-shut-length : (s : head.State) → length (head.shut s .numbers) ≤ length (s .numbers) + 1
-unfolding head.shut head.refuse
-shut-length s = go (eqb (s .digits) 0) (ltb (length (s .numbers)) 834)
+shut-length : (t : text.State) → length (text.shut t .numbers) ≤ length (t .numbers) + 1
+unfolding text.shut text.refuse
+shut-length t = go (eqb (t .digits) 0) (ltb (length (t .numbers)) 837)
   where
-    go : (e f : Bool) → length (cond e s (cond f (record { refused = false; digits = 0; value = 0; numbers = s .numbers ++ (s .value ∷ []) }) (head.refuse s)) .numbers)
-        ≤ length (s .numbers) + 1
+    go : (e f : Bool) → length (cond e t (cond f (record { refused = false; digits = 0; value = 0; numbers = t .numbers ++ (t .value ∷ []) }) (text.refuse t)) .numbers)
+        ≤ length (t .numbers) + 1
     go true f = omega arith
     go false true = rw length-append (omega arith)
     go false false = omega arith
 
-grown-length : (s : head.State) (b : ℕ) → length (head.grown s b .numbers) ≡ length (s .numbers)
-unfolding head.grown head.refuse
-grown-length s b = go (ltb (s .digits) 5 && leb (s .value * 10 + (b - 48)) 65535)
+grown-length : (t : text.State) (b : ℕ) → length (text.grown t b .numbers) ≡ length (t .numbers)
+unfolding text.grown text.refuse
+grown-length t b = go (ltb (t .digits) 5 && leb (t .value * 10 + (b - 48)) 65535)
   where
-    go : (e : Bool) → length (cond e (record { refused = false; digits = s .digits + 1; value = s .value * 10 + (b - 48); numbers = s .numbers }) (head.refuse s) .numbers)
-        ≡ length (s .numbers)
+    go : (e : Bool) → length (cond e (record { refused = false; digits = t .digits + 1; value = t .value * 10 + (b - 48); numbers = t .numbers }) (text.refuse t) .numbers)
+        ≡ length (t .numbers)
     go true = refl
     go false = refl
 
-step-length : (s : head.State) (b : ℕ) → length (head.step s b .numbers) ≤ length (s .numbers) + 1
-unfolding head.step head.refuse
-step-length s b = go (s .refused) (isSeparator b) (isDigit b)
+text-length : (t : text.State) (b : ℕ) → length (text.step t b .numbers) ≤ length (t .numbers) + 1
+unfolding text.step text.refuse
+text-length t b = go (t .refused) (isSeparator b) (isDigit b)
   where
-    go : (r t d : Bool) → length (cond r s (cond t (head.shut s) (cond d (head.grown s b) (head.refuse s))) .numbers) ≤ length (s .numbers) + 1
-    go true t d = omega arith
-    go false true d = shut-length s
-    go false false true = omega (arith, grown-length s b)
+    go : (r s d : Bool) → length (cond r t (cond s (text.shut t) (cond d (text.grown t b) (text.refuse t))) .numbers) ≤ length (t .numbers) + 1
+    go true s d = omega arith
+    go false true d = shut-length t
+    go false false true = omega (arith, grown-length t b)
     go false false false = omega arith
 
 -- none more where the byte is no separator
-pub step-keeps : (s : head.State) (b : ℕ) → isSeparator b ≡ false → length (head.step s b .numbers) ≡ length (s .numbers)
-unfolding head.step head.refuse
-step-keeps s b e = rw e (go (s .refused) (isDigit b))
+pub text-keeps : (t : text.State) (b : ℕ) → isSeparator b ≡ false → length (text.step t b .numbers) ≡ length (t .numbers)
+unfolding text.step text.refuse
+text-keeps t b e = rw e (go (t .refused) (isDigit b))
   where
-    go : (r d : Bool) → length (cond r s (cond d (head.grown s b) (head.refuse s)) .numbers) ≡ length (s .numbers)
+    go : (r d : Bool) → length (cond r t (cond d (text.grown t b) (text.refuse t)) .numbers) ≡ length (t .numbers)
     go true d = refl
-    go false true = grown-length s b
+    go false true = grown-length t b
     go false false = refl
 
-pub head-length : (d : heads.Scan) (numbers : List ℕ) → head.Sane d numbers → length (head.stateOf d numbers .numbers) ≡ d .count
+-- so that there are never more than stand before the payload
+step-length : (s : head.State) (b : ℕ) → length (s .text .numbers) < front (s .agreed) → length (head.step s b .text .numbers) ≤ front (head.step s b .agreed)
+unfolding head.step text.start
+step-length s b h = go (isMark b && head.fresh s)
+  where
+    after : Bool → head.State
+    after t = cond t (record { agreed = true; text = text.start }) (record { agreed = s .agreed; text = text.step (s .text) b })
+
+    go : (t : Bool) → length (after t .text .numbers) ≤ front (after t .agreed)
+    go true = omega arith
+    go false = omega (arith, text-length (s .text) b)
+
+pub head-length : (d : heads.Scan) (numbers : List ℕ) → head.Sane d numbers → length (head.stateOf d numbers .text .numbers) ≡ d .text .count
+unfolding head.stateOf text.stateOf
+head-length d numbers p = length-take-le (d .text .count) numbers (omega (arith, p .placed, p .long))
+
+head-agreed : (d : heads.Scan) (numbers : List ℕ) → head.stateOf d numbers .agreed ≡ d .agreed
 unfolding head.stateOf
-head-length d numbers p = length-take-le (d .count) numbers (omega (arith, p .placed, p .long))
+head-agreed d numbers = refl
 
 -- a byte before the payload's word, and one of it
-pub step-head : (s : State) (b : ℕ) → length (s .head .numbers) < 4 → step s b ≡ headed s b
+pub step-head : (s : State) (b : ℕ) → length (s .head .text .numbers) < front (s .head .agreed) → step s b ≡ headed s b
 unfolding step
-step-head s b h = rw (lt-ltb (length (s .head .numbers)) 4 h)
+step-head s b h = rw (lt-ltb (length (s .head .text .numbers)) (front (s .head .agreed)) h)
 
-pub step-word : (s : State) (b : ℕ) → 4 ≤ length (s .head .numbers) → step s b ≡ worded s b
+pub step-word : (s : State) (b : ℕ) → front (s .head .agreed) ≤ length (s .head .text .numbers) → step s b ≡ worded s b
 unfolding step
-step-word s b h = rw (le-ltb (length (s .head .numbers)) 4 h)
+step-word s b h = rw (le-ltb (length (s .head .text .numbers)) (front (s .head .agreed)) h)
 
 module _ {c : Scan} {numbers : List ℕ} where
-  step-headed : (b : ℕ) → Sane c numbers → c .head .count < 4 → step (stateOf c numbers) b ≡ headed (stateOf c numbers) b
-  unfolding stateOf
-  step-headed b p h = step-head (stateOf c numbers) b (rw (head-length (c .head) numbers (p .head)) h)
+  before : Sane c numbers → c .head .text .count < front (c .head .agreed)
+      → length (head.stateOf (c .head) numbers .text .numbers) < front (head.stateOf (c .head) numbers .agreed)
+  before p h = rw (head-length (c .head) numbers (p .head), head-agreed (c .head) numbers) h
 
-  pub step-worded : (b : ℕ) → Sane c numbers → 4 ≤ c .head .count → step (stateOf c numbers) b ≡ worded (stateOf c numbers) b
+  step-headed : (b : ℕ) → Sane c numbers → c .head .text .count < front (c .head .agreed) → step (stateOf c numbers) b ≡ headed (stateOf c numbers) b
   unfolding stateOf
-  step-worded b p h = step-word (stateOf c numbers) b (rw (head-length (c .head) numbers (p .head)) h)
+  step-headed b p h = step-head (stateOf c numbers) b (before p h)
 
-  pub holds-headed : {d : heads.Scan} {later : List ℕ} (b : ℕ) → Sane c numbers → c .head .count < 4 → head.Holds (head.step (head.stateOf (c .head) numbers) b) d later
-      → Holds (step (stateOf c numbers) b) (record { head = d; word = Before; bytes = 0 }) later
+  pub step-worded : (b : ℕ) → Sane c numbers → front (c .head .agreed) ≤ c .head .text .count → step (stateOf c numbers) b ≡ worded (stateOf c numbers) b
+  unfolding stateOf
+  step-worded b p h = step-word (stateOf c numbers) b (rw (head-length (c .head) numbers (p .head), head-agreed (c .head) numbers) h)
+
+  pub holds-headed : {d : heads.Scan} {later : List ℕ} (b : ℕ) → Sane c numbers → c .head .text .count < front (c .head .agreed)
+      → head.Holds (head.step (head.stateOf (c .head) numbers) b) d later → Holds (step (stateOf c numbers) b) (record { head = d; word = Before; bytes = 0 }) later
   unfolding stateOf headed tab
   holds-headed {d} {later} b p h q =
       record {
@@ -144,18 +168,14 @@ module _ {c : Scan} {numbers : List ℕ} where
         is = rw (step-headed b p h, q .is);
       }
     where
-      few : d .count ≤ 4
+      few : d .text .count ≤ front (d .agreed)
       few =
-          omega (
-            arith,
-            head-length (c .head) numbers (p .head),
-            sym (head-length d later (q .sane)) ∙ ap (λ (s : head.State). length (s .numbers)) (q .is),
-            step-length (head.stateOf (c .head) numbers) b,
-          )
+          let l = rw (← q .is) at (step-length (head.stateOf (c .head) numbers) b (before p h)) in
+          rw (head-length d later (q .sane), head-agreed d later) at l
 
   pub holds-worded : {next : Word} {later : List ℕ} {r : ℕ} (b : ℕ) → Sane c numbers → next ≡ nextWord (c .word) b → Kept (c .word) b (c .bytes) numbers later r
       → Holds (worded (stateOf c numbers) b) (record { head = c .head; word = next; bytes = r }) later
-  unfolding stateOf worded head.stateOf
+  unfolding stateOf worded head.stateOf text.stateOf
   holds-worded b p e k =
       record {
         sane = record {
@@ -164,7 +184,7 @@ module _ {c : Scan} {numbers : List ℕ} where
           kept = k .few;
           long = k .long ∙ p .long;
         };
-        is = rw (k .front (c .head .count) (p .few), e, k .is);
+        is = rw (k .front (c .head .text .count) (omega (arith, p .few, asBit-le (c .head .agreed))), e, k .is);
       }
 
 -- a text in two pieces
@@ -173,15 +193,11 @@ unfolding run
 run-append s xs ys = sym (foldl-append step s xs ys)
 
 -- a struct of the beginning: nothing of the text is taken
-pub holds-start : (c : Scan) (numbers : List ℕ) → Begun c → length numbers ≡ 834 → Holds start c numbers
-unfolding stateOf start head.stateOf head.start tab
+pub holds-start : (c : Scan) (numbers : List ℕ) → Begun c → length numbers ≡ 837 → Holds start c numbers
+unfolding stateOf start tab
 holds-start c numbers p l =
+    let h = head-start (c .head) numbers (p .head) l in
     record {
-      sane = record {
-        head = record { few = omega (arith, p .digits); small = omega (arith, p .value); placed = omega (arith, p .count); long = l };
-        few = omega (arith, p .count);
-        kept = omega (arith, p .bytes);
-        long = l;
-      };
-      is = rw (p .refused, p .digits, p .value, p .count, p .word, p .bytes);
+      sane = record { head = h .sane; few = omega (arith, p .head .count); kept = omega (arith, p .bytes); long = l };
+      is = rw (h .is, p .word, p .bytes);
     }

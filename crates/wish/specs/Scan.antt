@@ -5,18 +5,20 @@ use mathlib.Core.List.{List, [], _∷_, _++_, foldl}
 use mathlib.Core.Path.{_≡_}
 use Prim.Native.Nat.{ℕ, _+_, _*_, _%_, _≤_}
 use lib.Dec.{ltb, eqb}
-use lib.ListN.{length, take, getD}
+use lib.ListN.{length, take, drop, getD}
+use Rattle.bits.specs.Bit.{asBit}
 use Rattle.bits.specs.Check.{check}
 use Rattle.bits.specs.Tab.{tab}
+use Rattle.capture.specs.Scan as head
 use Rattle.line.specs.declared.Outcome.{Outcome}
+use Rattle.lora.specs.declared.Settings.{Settings}
 use Rattle.text.specs.Text.{isSeparator}
-use Rattle.text.specs.Scan as head
-use Rattle.wish.specs.Wish.{isHex, hexValue, Wish, bad, wish, settingsOf, flagsHold, answerTo, outcomeTo}
+use Rattle.wish.specs.Wish.{isHex, hexValue, Wish, bad, wish, settingsOf, flagsHold, withLength, answerTo, outcomeTo}
 use Rattle.wish.specs.declared.Scan.{Scan}
 use Rattle.wish.specs.declared.Word.{Word}
 use Rattle.wish.specs.declared.Word.the-variants.{Before, Hyphen, Whole, Half, Closed, Bad}
 
--- how far a wish was taken: the four numbers, as a text of numbers is taken; how far the payload's word was, and the
+-- how far a wish was taken: the mark and the numbers, as a capture's are taken; how far the payload's word was, and the
 -- first 256 bytes that it says
 pub record State : Type 0 where
   pub head : head.State
@@ -72,7 +74,17 @@ highOf Bad = 16
 unfoldable pub added : Word → ℕ → List ℕ
 added word b = cond (ltb (highOf word) 16 && isHex b) ((highOf word * 16 + hexValue b) ∷ []) []
 
--- four numbers, then the payload's word; of the payload 256 bytes are kept, which are too many
+-- the numbers before the payload: four, and behind a mark the agreed length in front of them
+abbrev pub front : Bool → ℕ
+front agreed = asBit agreed + 4
+
+unfoldable pub flagsIn : Bool → List ℕ → Bool
+flagsIn agreed numbers = flagsHold (drop (asBit agreed) numbers)
+
+unfoldable pub settingsIn : Bool → List ℕ → Settings
+settingsIn agreed numbers = cond agreed (withLength (getD numbers 0 0) (settingsOf (drop 1 numbers))) (settingsOf numbers)
+
+-- those numbers, then the payload's word; of the payload 256 bytes are kept, which are too many
 unfoldable pub headed : State → ℕ → State
 headed s b = record { head = head.step (s .head) b; word = Before; payload = [] }
 
@@ -80,7 +92,7 @@ unfoldable pub worded : State → ℕ → State
 worded s b = record { head = s .head; word = nextWord (s .word) b; payload = take 256 (s .payload ++ added (s .word) b) }
 
 unfoldable pub step : State → ℕ → State
-step s b = cond (ltb (length (s .head .numbers)) 4) (headed s b) (worded s b)
+step s b = cond (ltb (length (s .head .text .numbers)) (front (s .head .agreed))) (headed s b) (worded s b)
 
 unfoldable pub run : State → List ℕ → State
 run s bytes = foldl step s bytes
@@ -94,13 +106,16 @@ complete (Half high) = false
 complete Closed = true
 complete Bad = false
 
+-- what the numbers and a payload say
+unfoldable pub said : Bool → List ℕ → List ℕ → Wish
+said agreed numbers payload = check (flagsIn agreed numbers) bad (wish (settingsIn agreed numbers) payload)
+
 -- the wish that was taken, at its end
 unfoldable pub taken : State → Wish
 taken s =
     check (complete (s .word)) bad
-    (check (eqb (length (s .head .numbers)) 4) bad
-    (check (flagsHold (s .head .numbers)) bad
-    (wish (settingsOf (s .head .numbers)) (s .payload))))
+    (check (eqb (length (s .head .text .numbers)) (front (s .head .agreed))) bad
+    (said (s .head .agreed) (s .head .text .numbers) (s .payload)))
 
 -- what a text that ends in this state is answered, and how
 unfoldable pub lineAt : State → List ℕ
@@ -109,20 +124,20 @@ lineAt s = answerTo (taken s)
 unfoldable pub outcomeAt : State → Outcome
 outcomeAt s = outcomeTo (taken s)
 
--- the payload's bytes stand behind the four numbers, one a cell
+-- the payload's bytes stand behind room for five numbers, one a cell
 unfoldable pub byteIn : List ℕ → ℕ → ℕ
-byteIn numbers i = getD numbers (4 + i) 0 % 256
+byteIn numbers i = getD numbers (5 + i) 0 % 256
 
 -- the state that the struct and the list of numbers hold
 unfoldable pub stateOf : Scan → List ℕ → State
 stateOf c numbers = record { head = head.stateOf (c .head) numbers; word = c .word; payload = tab (c .bytes) (byteIn numbers) }
 
--- a struct as scanning makes it, with a list of 834 numbers
+-- a struct as scanning makes it, with a list of 837 numbers
 pub record Sane (c : Scan) (numbers : List ℕ) : Type 0 where
   pub head : head.Sane (c .head) numbers
-  pub few : c .head .count ≤ 4
+  pub few : c .head .text .count ≤ front (c .head .agreed)
   pub kept : c .bytes ≤ 256
-  pub long : length numbers ≡ 834
+  pub long : length numbers ≡ 837
 
 -- the struct and the list hold the state s
 pub record Holds (s : State) (c : Scan) (numbers : List ℕ) : Type 0 where
@@ -131,16 +146,13 @@ pub record Holds (s : State) (c : Scan) (numbers : List ℕ) : Type 0 where
 
 -- the struct before the first byte
 pub record Begun (c : Scan) : Type 0 where
-  pub refused : c .head .refused ≡ false
-  pub digits : c .head .digits ≡ 0
-  pub value : c .head .value ≡ 0
-  pub count : c .head .count ≡ 0
+  pub head : head.Begun (c .head)
   pub word : c .word ≡ Before
   pub bytes : c .bytes ≡ 0
 
 -- a byte of the text was kept, if it ends one of the payload's: in the list old, which then is new
 pub record Kept (word : Word) (b n : ℕ) (old new : List ℕ) (r : ℕ) : Type 0 where
-  pub front : (i : ℕ) → i ≤ 4 → take i new ≡ take i old
+  pub front : (i : ℕ) → i ≤ 5 → take i new ≡ take i old
   pub is : tab r (byteIn new) ≡ take 256 (tab n (byteIn old) ++ added word b)
   pub few : r ≤ 256
   pub long : length new ≡ length old

@@ -4,19 +4,23 @@ use mathlib.Core.Bool.{Bool, false, _&&_, _||_, cond}
 use mathlib.Core.List.{List, [], _∷_, _++_, map, flatMap}
 use Prim.Native.Nat.{ℕ, _+_, _-_, _*_, _%_}
 use lib.Dec.{leb, eqb}
-use lib.ListN.{length, getD, take}
+use lib.ListN.{length, getD, take, drop}
 use Rattle.bits.specs.Bit.{isSet, asBit}
 use Rattle.bits.specs.Check.{check}
 use Rattle.bits.specs.Tab.{tab}
+use Rattle.capture.specs.Capture.{isMark}
 use Rattle.line.specs.Line.{decimal, field, lineOf}
 use Rattle.line.specs.declared.Outcome.{Outcome}
 use Rattle.line.specs.declared.Outcome.the-variants.{Clean, Declined}
 use Rattle.lora.specs.Code.{sentSymbol, codeOf}
+use Rattle.lora.specs.Count.{crOf, checkedOf, frameOf}
+use Rattle.lora.specs.declared.Kind.{Kind}
+use Rattle.lora.specs.declared.Kind.the-variants.{Explicit, Agreed}
 use Rattle.lora.specs.declared.Settings.{Settings}
 use Rattle.lora.specs.declared.Counted.{Counted}
 use Rattle.lora.specs.declared.Counted.the-variants.{Symbols, Refused}
 use Rattle.lora.specs.declared.Received.the-variants as received
-use Rattle.text.specs.Text.{isDigit, all, wordsFrom, isNumber, valueOf}
+use Rattle.text.specs.Text.{isSeparator, isDigit, all, wordsFrom, isNumber, valueOf}
 
 -- a hex digit of either case, and its value
 abbrev pub isHex : ℕ → Bool
@@ -50,7 +54,7 @@ pub data Wish : Type 0 where
 
 -- four numbers: SF, low rate (0 or 1), CR, checksum flag (0 or 1)
 unfoldable pub settingsOf : List ℕ → Settings
-settingsOf numbers = record { sf = getD numbers 0 0; low = isSet (getD numbers 1 0); cr = getD numbers 2 0; checked = isSet (getD numbers 3 0) }
+settingsOf numbers = record { sf = getD numbers 0 0; low = isSet (getD numbers 1 0); kind = Explicit (getD numbers 2 0) (isSet (getD numbers 3 0)) }
 
 unfoldable pub flagsHold : List ℕ → Bool
 flagsHold numbers = leb (getD numbers 1 0) 1 && leb (getD numbers 3 0) 1
@@ -64,17 +68,41 @@ wishOf words =
     (check (isPayload (getD words 4 [])) bad
     (wish (settingsOf (map valueOf (take 4 words))) (payloadOf (getD words 4 []))))))
 
+-- the same settings without a header, this length being agreed
+abbrev pub withLength : ℕ → Settings → Settings
+withLength len s = record { sf = s .sf; low = s .low; kind = Agreed len (crOf (s .kind)) (checkedOf (s .kind)) }
+
+abbrev pub agreedWith : ℕ → Wish → Wish
+agreedWith len bad = bad
+agreedWith len (wish s payload) = wish (withLength len s) payload
+
+-- behind a mark (document 02, Ask 4): the agreed length, then a wish as it is
+unfoldable pub agreedIn : List (List ℕ) → Wish
+agreedIn words = check (isNumber (getD words 0 [])) bad (agreedWith (valueOf (getD words 0 [])) (wishOf (drop 1 words)))
+
+-- the first byte behind separators says which it is
+unfoldable pub wishIn : List ℕ → Wish
+wishIn [] = bad
+wishIn (b ∷ bs) =
+    cond (isSeparator b) (wishIn bs)
+    (cond (isMark b) (agreedIn (wordsFrom [] bs)) (wishOf (wordsFrom [] (b ∷ bs))))
+
 -- the numbers of a list, each after a space
 abbrev pub fields : List ℕ → List ℕ
 fields numbers = flatMap field numbers
 
--- the line that the reading program takes: SF, low rate, symbols; byte 10 at the end
+-- what stands in front of a frame's line: without a header the mark and the agreed length, CR and flag
+abbrev pub frontOf : Kind → List ℕ
+frontOf (Explicit cr flag) = []
+frontOf (Agreed len cr flag) = (61 ∷ []) ++ (field len ++ (field cr ++ (field (asBit flag) ++ (32 ∷ []))))
+
+-- the capture that lora_lines takes: behind that SF, low rate, symbols; byte 10 at the end
 unfoldable pub frameLine : Settings → List ℕ → List ℕ
-frameLine s symbols = decimal (s .sf) ++ (field (asBit (s .low)) ++ (fields symbols ++ (10 ∷ [])))
+frameLine s symbols = frontOf (s .kind) ++ (decimal (s .sf) ++ (field (asBit (s .low)) ++ (fields symbols ++ (10 ∷ []))))
 
 -- the line for what code answers, into a list of 832 cells; how it was answered
 abbrev pub lineFor : Settings → List ℕ → Counted → List ℕ
-lineFor s payload (Symbols count) = frameLine s (tab count (sentSymbol s payload))
+lineFor s payload (Symbols count) = frameLine s (tab count (sentSymbol (frameOf s) payload))
 lineFor s payload (Refused number place) = lineOf (received.Refused number place) []
 
 abbrev pub outcomeFor : Counted → Outcome
@@ -91,7 +119,7 @@ outcomeTo bad = Declined
 outcomeTo (wish s payload) = outcomeFor (codeOf s payload 832)
 
 unfoldable pub answerOf : List ℕ → List ℕ
-answerOf bytes = answerTo (wishOf (wordsFrom [] bytes))
+answerOf bytes = answerTo (wishIn bytes)
 
 unfoldable pub outcomeIs : List ℕ → Outcome
-outcomeIs bytes = outcomeTo (wishOf (wordsFrom [] bytes))
+outcomeIs bytes = outcomeTo (wishIn bytes)

@@ -3,18 +3,20 @@ ghost use mathlib.Core.Path.{_≡_};
 ghost use mathlib.Core.List.{[]};
 ghost use Prim.Native.Nat.{_+_, _*_, _≤_};
 ghost use lib.ListN.{length};
+ghost use Rattle.bits.specs.Bit.{asBit};
 ghost use Rattle.bits.specs.Tab.{tab, over, blank};
 ghost use Rattle.line.specs.Line.{lineOf};
 ghost use Rattle.line.specs.Outcome.{Answered};
 ghost use Rattle.put.specs.Put.{Put};
 ghost use Rattle.line.specs.declared.Outcome.the-variants.{Declined};
 ghost use Rattle.lora.specs.declared.Received.the-variants as received;
-ghost use Rattle.wish.specs.Answer.{isWish, narrow, sentLine, Fitted};
-ghost use Rattle.wish.specs.Scan.{Sane, Holds, Begun, Kept, step, worded, run, stateOf, nextWord, shutWord, grownWord, opened, paired, complete, highOf, digitOf, byteIn, lineAt, outcomeAt};
-ghost use Rattle.wish.specs.Wish.{wish, settingsOf, fields, frameLine, outcomeFor, answerTo, outcomeTo};
+ghost use Rattle.wish.specs.Answer.{isWish, kindFor, narrow, sentLine, Fitted};
+ghost use Rattle.wish.specs.Scan.{Sane, Holds, Begun, Kept, step, worded, run, stateOf, nextWord, shutWord, grownWord, opened, paired, complete, highOf, digitOf, settingsIn, byteIn, lineAt, outcomeAt};
+ghost use Rattle.wish.specs.Wish.{wish, fields, frontOf, frameLine, outcomeFor, answerTo, outcomeTo};
 use line::Answer;
 use line::Outcome;
 use lora::Counted;
+use lora::Kind;
 use lora::Received;
 use lora::Settings;
 
@@ -32,9 +34,10 @@ pub enum Word {
     Bad,
 }
 
-// How far a wish was taken; in a lent list of 834 stand the four numbers and behind them the payload's bytes.
+// How far a wish was taken; in a lent list of 837 stand the numbers in front of the payload, five at most, and from the sixth
+// cell on the payload's bytes.
 pub struct Scan {
-    pub head: text::Scan,
+    pub head: capture::Scan,
     pub word: Word,
     pub bytes: usize,
 }
@@ -43,7 +46,7 @@ pub struct Scan {
 pub fn begin() -> Scan
     ensures { λ r. ⌜ Begun r ⌝ }
 {
-    let head = text::begin();
+    let head = capture::begin();
     Scan {
         head,
         word: Word::Before,
@@ -150,7 +153,7 @@ fn high_digit(word: Word) -> u16
 // Keeps the payload's byte that this byte of the text is the end of, if any, behind those kept before; 256 of them stand for
 // any more, since no frame has as many.
 fn keep_byte(word: Word, b: u8, bytes: usize, numbers: &mut [u16]) -> usize
-    requires { ⌜ (bytes ≤ 256) × (length (now numbers) ≡ 834) ⌝ }
+    requires { ⌜ (bytes ≤ 256) × (length (now numbers) ≡ 837) ⌝ }
     ensures { λ r. ⌜ Kept word b bytes (now (numbers .entry)) (now (numbers .exit)) r ⌝ }
 {
     let high = high_digit(word);
@@ -164,11 +167,11 @@ fn keep_byte(word: Word, b: u8, bytes: usize, numbers: &mut [u16]) -> usize
     if bytes >= 256 {
         return bytes;
     }
-    numbers[4 + bytes] = high * 16 + low;
+    numbers[5 + bytes] = high * 16 + low;
     bytes + 1
 }
 
-// One byte behind the four numbers.
+// One byte behind the numbers.
 fn take_payload(scan: Scan, b: u8, numbers: &mut [u16]) -> Scan
     requires { ⌜ Sane scan (now numbers) ⌝ }
     ensures { λ r. ⌜ Holds (worded (stateOf scan (now (numbers .entry))) b) r (now (numbers .exit)) ⌝ }
@@ -184,14 +187,22 @@ fn take_payload(scan: Scan, b: u8, numbers: &mut [u16]) -> Scan
     }
 }
 
+// Where the settings' four numbers begin: behind a mark the agreed length stands in front of them.
+fn first_of(agreed: bool) -> usize
+    ensures { λ r. ⌜ (r ≡ asBit agreed) × (r ≤ 1) ⌝ }
+{
+    if agreed { 1 } else { 0 }
+}
+
 // One byte of the text.
 fn take_byte(scan: Scan, b: u8, numbers: &mut [u16]) -> Scan
     requires { ⌜ Sane scan (now numbers) ⌝ }
     ensures { λ r. ⌜ Holds (step (stateOf scan (now (numbers .entry))) b) r (now (numbers .exit)) ⌝ }
 {
     let head = scan.head;
-    if head.count < 4 {
-        let next = text::take_byte(head, b, numbers);
+    let text = head.text;
+    if text.count < first_of(head.agreed) + 4 {
+        let next = capture::take_byte(head, b, numbers);
         return Scan {
             head: next,
             word: Word::Before,
@@ -227,50 +238,64 @@ fn is_complete(word: Word) -> bool
     }
 }
 
-// Whether a text that has ended is a wish: four numbers of which two are flags, and a payload.
+// Whether a text that has ended is a wish: the numbers, of which two are flags, and a payload.
 fn is_wish(scan: Scan, numbers: &[u16]) -> bool
-    requires { ⌜ 4 ≤ length (now numbers) ⌝ }
+    requires { ⌜ 5 ≤ length (now numbers) ⌝ }
     ensures { λ r. ⌜ r ≡ isWish scan (now (numbers .entry)) ⌝ }
 {
     let head = scan.head;
+    let text = head.text;
     let word = scan.word;
+    let first = first_of(head.agreed);
     if !is_complete(word) {
         return false;
     }
-    if head.count != 4 {
+    if text.count != first + 4 {
         return false;
     }
-    if numbers[1] > 1 {
+    if numbers[first + 1] > 1 {
         return false;
     }
-    numbers[3] <= 1
+    numbers[first + 3] <= 1
 }
 
-// The settings that the four numbers say; an SF or a CR that fits no byte becomes 255, which is neither.
-fn settings_of(numbers: &[u16]) -> Settings
-    requires { ⌜ 4 ≤ length (now numbers) ⌝ }
-    ensures { λ r. ⌜ r ≡ narrow (settingsOf (now (numbers .entry))) ⌝ }
+// How the two sides know the rest.
+fn kind_of(agreed: bool, length: usize, cr: u8, checked: bool) -> Kind
+    ensures { λ r. ⌜ r ≡ kindFor agreed length cr checked ⌝ }
 {
-    let sf = text::narrow(numbers[0]);
-    let low = numbers[1] == 1;
-    let cr = text::narrow(numbers[2]);
-    let checked = numbers[3] == 1;
-    Settings {
-        sf,
-        low,
-        cr,
-        checked,
+    if agreed {
+        Kind::Agreed {
+            length,
+            cr,
+            checked,
+        }
+    } else {
+        Kind::Explicit { cr, checked }
     }
 }
 
-// The payload's bytes, from the cells behind the four numbers.
+// The settings that the numbers say; an SF or a CR that fits no byte becomes 255, which is neither.
+fn settings_of(agreed: bool, numbers: &[u16]) -> Settings
+    requires { ⌜ 5 ≤ length (now numbers) ⌝ }
+    ensures { λ r. ⌜ r ≡ narrow (settingsIn agreed (now (numbers .entry))) ⌝ }
+{
+    let first = first_of(agreed);
+    let sf = text::narrow(numbers[first]);
+    let low = numbers[first + 1] == 1;
+    let cr = text::narrow(numbers[first + 2]);
+    let checked = numbers[first + 3] == 1;
+    let kind = kind_of(agreed, bits::wide16(numbers[0]), cr, checked);
+    Settings { sf, low, kind }
+}
+
+// The payload's bytes, from the cells behind the numbers.
 fn payload_of(numbers: &[u16], bytes: usize) -> [u8; 256]
-    requires { ⌜ (bytes ≤ 256) × (length (now numbers) ≡ 834) ⌝ }
+    requires { ⌜ (bytes ≤ 256) × (length (now numbers) ≡ 837) ⌝ }
     ensures { λ r. ⌜ r ≡ over bytes (byteIn (now (numbers .entry))) (blank 256 0) ⌝ }
 {
     let mut payload = [0u8; 256];
     for i in 0..bytes {
-        payload[i] = (numbers[4 + i] % 256) as u8;
+        payload[i] = (numbers[5 + i] % 256) as u8;
     }
     payload
 }
@@ -287,12 +312,35 @@ fn put_fields(out: &mut [u8], at: usize, symbols: &[u16]) -> usize
     next
 }
 
+// Writes what stands in front of a frame's line, and answers the next place: without a header the mark and the agreed values.
+fn put_front(kind: Kind, out: &mut [u8]) -> usize
+    requires { ⌜ 65 ≤ length (now out) ⌝ }
+    ensures { λ r. ⌜ Put 0 (frontOf kind) (now (out .entry)) (now (out .exit)) r × (r ≤ 65) ⌝ }
+{
+    match kind {
+        Kind::Explicit { cr: _, checked: _ } => 0,
+        Kind::Agreed {
+            length,
+            cr,
+            checked,
+        } => {
+            let after_mark = put::put(out, 0, capture::MARK);
+            let after_length = line::put_field(out, after_mark, length);
+            let after_cr = line::put_field(out, after_length, bits::wide(cr));
+            let after_flag = line::put_field(out, after_cr, line::flag(checked));
+            put::put(out, after_flag, 32)
+        }
+    }
+}
+
 // Writes a frame's line and answers its length.
 fn put_frame(s: Settings, symbols: &[u16], out: &mut [u8]) -> usize
     requires { ⌜ (length (now symbols) ≤ 832) × (17600 ≤ length (now out)) ⌝ }
     ensures { λ r. ⌜ Put 0 (frameLine s (now (symbols .entry))) (now (out .entry)) (now (out .exit)) r × (r ≤ 17600) ⌝ }
 {
-    let after_sf = line::put_decimal(out, 0, bits::wide(s.sf));
+    let kind = s.kind;
+    let after_front = put_front(kind, out);
+    let after_sf = line::put_decimal(out, after_front, bits::wide(s.sf));
     let after_low = line::put_field(out, after_sf, line::flag(s.low));
     let after_symbols = put_fields(out, after_low, symbols);
     put::put(out, after_symbols, 10)
@@ -325,11 +373,11 @@ fn answer_with(s: Settings, counted: Counted, symbols: &[u16], out: &mut [u8]) -
 }
 
 // Codes the wish that stands in the numbers, and writes its line.
-fn answer_wish(numbers: &[u16], bytes: usize, out: &mut [u8]) -> Answer
-    requires { ⌜ (bytes ≤ 256) × (length (now numbers) ≡ 834) × (17600 ≤ length (now out)) ⌝ }
-    ensures { λ r. ⌜ Answered 17600 (answerTo (wish (settingsOf (now (numbers .entry))) (tab bytes (byteIn (now (numbers .entry)))))) (outcomeTo (wish (settingsOf (now (numbers .entry))) (tab bytes (byteIn (now (numbers .entry)))))) (now (out .entry)) (now (out .exit)) r ⌝ }
+fn answer_wish(agreed: bool, numbers: &[u16], bytes: usize, out: &mut [u8]) -> Answer
+    requires { ⌜ (bytes ≤ 256) × (length (now numbers) ≡ 837) × (17600 ≤ length (now out)) ⌝ }
+    ensures { λ r. ⌜ Answered 17600 (answerTo (wish (settingsIn agreed (now (numbers .entry))) (tab bytes (byteIn (now (numbers .entry)))))) (outcomeTo (wish (settingsIn agreed (now (numbers .entry))) (tab bytes (byteIn (now (numbers .entry)))))) (now (out .entry)) (now (out .exit)) r ⌝ }
 {
-    let s = settings_of(numbers);
+    let s = settings_of(agreed, numbers);
     let payload = payload_of(numbers, bytes);
     let mut symbols = [0u16; layout::MOST_SYMBOLS];
     let counted = lora::code(s, &payload[..bytes], &mut symbols);
@@ -341,9 +389,10 @@ pub fn answer(scan: Scan, numbers: &mut [u16], out: &mut [u8]) -> Answer
     requires { ⌜ Sane scan (now numbers) × (17600 ≤ length (now out)) ⌝ }
     ensures { λ r. ⌜ Answered 17600 (lineAt (stateOf scan (now (numbers .entry)))) (outcomeAt (stateOf scan (now (numbers .entry)))) (now (out .entry)) (now (out .exit)) r ⌝ }
 {
+    let head = scan.head;
     let bytes = scan.bytes;
     if !is_wish(scan, numbers) {
         return decline(refusal::BAD_TEXT, 0, out);
     }
-    answer_wish(numbers, bytes, out)
+    answer_wish(head.agreed, numbers, bytes, out)
 }

@@ -1,36 +1,32 @@
--- `answer` declines what is no frame, and answers a frame from the list's parts.
+-- `answer` reads the capture and writes the line.
 -- Assumes nothing.
-use mathlib.Core.Path.{sym, _∙_}
-use Prim.Native.Nat.{_≤_}
-use borrow.Author.Tests.{not-true, not-false}
-use Rattle.text.specs.Scan.{outcomeAt}
+use Rattle.bits.specs.Tab.{blank}
+use Rattle.capture.specs.Scan.{taken, outcomeAt}
+use Rattle.capture.proofs.CallLaws.{heard-line}
 use Rattle.hurt.specs.Answer.{lineAt}
-use Rattle.bits.proofs.Lists.{drop-take}
-use Rattle.text.proofs.AnswerLaws.{frame-two}
-use Rattle.text.proofs.ScanLaws.{frame-is}
+use Rattle.hurt.proofs.AnswerLaws.{hurt-line}
 use borrow.Author.Needs.{needs}
 use Rattle.hurt.proofs.answer.Statement.{statement}
 use Rattle.hurt.proofs.answer.Tie as tie
 
--- the text's end, before the test of what it is
-abbrev done : tie.After-is-frame → tie.After-finish
-done c = c .before .before .before .before
-
--- a frame has its first two numbers
-two : (c : tie.Else1) → 2 ≤ done (c .before) .finish .result .count
-two c = frame-two (done (c .before) .finish .result) (done (c .before) .finish .last .1 .0) (sym (c .before .is-frame .ensures) ∙ not-false _ (c .if1 .left))
-
 finish-requires : tie.Need-finish-requires
 finish-requires c κs = search needs
 
-is-frame-requires : tie.Need-is-frame-requires
-is-frame-requires c κs = search needs
+slice-aggregate-receive : tie.Need-slice-aggregate-receive
+slice-aggregate-receive c = search needs
+
+slice-aggregate-receive-2 : tie.Need-slice-aggregate-receive-2
+slice-aggregate-receive-2 c = search needs
+
+receive-requires : tie.Need-receive-requires
+receive-requires c κs = search needs
 
 slice-aggregate-answer-with : tie.Need-slice-aggregate-answer-with
 slice-aggregate-answer-with c = search needs
 
 answer-with-requires : tie.Need-answer-with-requires
-answer-with-requires c κs = search needs
+unfolding blank
+answer-with-requires c κs = (hurt-line (c .before .before .before .before .receive .ensures) .0, search needs, search needs)
 
 same-length : tie.Need-same-length
 same-length c = search needs
@@ -39,62 +35,23 @@ same-length-2 : tie.Need-same-length-2
 same-length-2 c = search needs
 
 returns : tie.Need-returns
-unfolding lineAt outcomeAt
+unfolding blank lineAt outcomeAt taken
 returns c =
-    let test = c .before .before .before .before .before in
-    rw (frame-is _ (done (test .before) .finish .ensures), sym (test .before .is-frame .ensures) ∙ not-true _ (test .if1 .taken))
-    (c .before .before .answer-with .ensures)
-
-slice-read-answer-frame : tie.Need-slice-read-answer-frame
-slice-read-answer-frame c = search needs
-
-slice-read-answer-frame-2 : tie.Need-slice-read-answer-frame-2
-slice-read-answer-frame-2 c = search needs
-
-sub-answer-frame : tie.Need-sub-answer-frame
-sub-answer-frame c = two (c .before .before)
-
-part-answer-frame-start : tie.Need-part-answer-frame-start
-part-answer-frame-start c = let h = two (c .before .before .before) in search needs
-
-part-answer-frame-end : tie.Need-part-answer-frame-end
-part-answer-frame-end c = search needs
-
-answer-frame-requires : tie.Need-answer-frame-requires
-answer-frame-requires c κs = search needs
-
-same-length-3 : tie.Need-same-length-3
-same-length-3 c = search needs
-
-same-length-4 : tie.Need-same-length-4
-same-length-4 c = search needs
-
-returns-2 : tie.Need-returns-2
-unfolding lineAt outcomeAt
-returns-2 c =
-    let frame = c .before .before in
-    let part = frame .before .before .before in
-    let test = part .before .before .before in
-    rw (frame-is _ (done (test .before) .finish .ensures), sym (test .before .is-frame .ensures) ∙ not-false _ (test .if1 .left), drop-take)
-    (frame .answer-frame .ensures)
+    let read = c .before .before .before .before .before .before .before in
+    let done = read .before .before .before .before .before .before in
+    let heard = read .receive .ensures in
+    rw (← done .finish .ensures .is, ← hurt-line heard .1, ← heard-line heard .2) (c .before .before .answer-with .ensures)
 
 pub answer-spec : {M : Type 1} → statement M
 answer-spec =
     tie.close
     (tie.spec
     finish-requires
-    is-frame-requires
+    slice-aggregate-receive
+    slice-aggregate-receive-2
+    receive-requires
     slice-aggregate-answer-with
     answer-with-requires
     same-length
     same-length-2
-    returns
-    slice-read-answer-frame
-    slice-read-answer-frame-2
-    sub-answer-frame
-    part-answer-frame-start
-    part-answer-frame-end
-    answer-frame-requires
-    same-length-3
-    same-length-4
-    returns-2)
+    returns)

@@ -1,7 +1,8 @@
 -- `anew` opens a piece of the same kind.
 -- Assumes nothing.
 use Rattle.lines.proofs.StreamLaws.{frame-start, wish-start, hurt-start}
-use Rattle.wish.proofs.ScanLaws.{holds-start}
+use Rattle.capture.proofs.ScanLaws.{holds-start as capture-begun}
+use Rattle.wish.proofs.ScanLaws.{holds-start as wish-begun}
 use borrow.Author.Needs.{needs}
 use Rattle.lines.proofs.anew.Statement.{statement}
 use Rattle.lines.proofs.anew.Tie as tie
@@ -25,13 +26,13 @@ begin-requires-3 : tie.Need-begin-requires-3
 begin-requires-3 c κs = search needs
 
 returns : tie.Need-returns
-returns c = λ old numbers l. let e = c .begin .ensures in rw (c .before .enum-told .given .1) (frame-start (c .begin .result) numbers (e .0) (e .1) (e .2) (e .3) l)
+returns c = λ old numbers l. rw (c .before .enum-told .given .1) (frame-start (capture-begun (c .begin .result) numbers (c .begin .ensures) l))
 
 returns-2 : tie.Need-returns-2
-returns-2 c = λ old numbers l. rw (c .before .enum-told2 .given .1) (wish-start (holds-start (c .begin2 .result) numbers (c .begin2 .ensures) l))
+returns-2 c = λ old numbers l. rw (c .before .enum-told2 .given .1) (wish-start (wish-begun (c .begin2 .result) numbers (c .begin2 .ensures) l))
 
 returns-3 : tie.Need-returns-3
-returns-3 c = λ old numbers l. let e = c .begin3 .ensures in rw (c .before .enum-told3 .given .1) (hurt-start (c .begin3 .result) numbers (e .0) (e .1) (e .2) (e .3) l)
+returns-3 c = λ old numbers l. rw (c .before .enum-told3 .given .1) (hurt-start (capture-begun (c .begin3 .result) numbers (c .begin3 .ensures) l))
 
 pub anew-spec : {M : Type 1} → statement M
 anew-spec =

@@ -5,25 +5,25 @@ use Prim.Native.Nat.{_≤_}
 use borrow.Author.Tests.{not-true, not-false}
 use Rattle.text.specs.Scan.{lineAt, outcomeAt}
 use Rattle.bits.proofs.Lists.{drop-take}
-use Rattle.text.proofs.AnswerLaws.{frame-two}
+use Rattle.text.proofs.AnswerLaws.{frame-numbers}
 use Rattle.text.proofs.ScanLaws.{frame-is}
 use borrow.Author.Needs.{needs}
 use Rattle.text.proofs.answer.Statement.{statement}
 use Rattle.text.proofs.answer.Tie as tie
 
 -- the text's end, before the test of what it is
-abbrev done : tie.After-is-frame → tie.After-finish
+abbrev done : tie.After-says-frame → tie.After-finish
 done c = c .before .before .before .before
 
 -- a frame has its first two numbers
 two : (c : tie.Else1) → 2 ≤ done (c .before) .finish .result .count
-two c = frame-two (done (c .before) .finish .result) (done (c .before) .finish .last .1 .0) (sym (c .before .is-frame .ensures) ∙ not-false _ (c .if1 .left))
+two c = frame-numbers (done (c .before) .finish .ensures .sane) (sym (c .before .says-frame .ensures) ∙ not-false _ (c .if1 .left))
 
 finish-requires : tie.Need-finish-requires
 finish-requires c κs = search needs
 
-is-frame-requires : tie.Need-is-frame-requires
-is-frame-requires c κs = search needs
+says-frame-requires : tie.Need-says-frame-requires
+says-frame-requires c κs = search needs
 
 answer-with-requires : tie.Need-answer-with-requires
 answer-with-requires c κs = search needs
@@ -38,7 +38,7 @@ returns : tie.Need-returns
 unfolding lineAt outcomeAt
 returns c =
     let test = c .before .before .before .before in
-    rw (frame-is _ (done (test .before) .finish .ensures), sym (test .before .is-frame .ensures) ∙ not-true _ (test .if1 .taken))
+    rw (frame-is _ (done (test .before) .finish .ensures), sym (test .before .says-frame .ensures) ∙ not-true _ (test .if1 .taken))
     (c .before .before .answer-with .ensures)
 
 slice-read-answer-frame : tie.Need-slice-read-answer-frame
@@ -71,7 +71,7 @@ returns-2 c =
     let frame = c .before .before in
     let part = frame .before .before .before in
     let test = part .before .before .before in
-    rw (frame-is _ (done (test .before) .finish .ensures), sym (test .before .is-frame .ensures) ∙ not-false _ (test .if1 .left), drop-take)
+    rw (frame-is _ (done (test .before) .finish .ensures), sym (test .before .says-frame .ensures) ∙ not-false _ (test .if1 .left), drop-take)
     (frame .answer-frame .ensures)
 
 pub answer-spec : {M : Type 1} → statement M
@@ -79,7 +79,7 @@ answer-spec =
     tie.close
     (tie.spec
     finish-requires
-    is-frame-requires
+    says-frame-requires
     answer-with-requires
     same-length
     same-length-2

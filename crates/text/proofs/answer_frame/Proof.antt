@@ -24,7 +24,7 @@ answer-with-requires c κs =
     let read = c .before .before .before in
     let narrow = read .before .before .before in
     let is = frame-read (narrowed-read (narrow .before .before .before .args .sf) (narrow .narrow .ensures) (read .read .ensures)) in
-    (rw (is .0) (read-shown _ _ _), search needs)
+    (rw (is .0) (read-shown _ _ _ _), search needs)
 
 same-length : tie.Need-same-length
 same-length c = search needs

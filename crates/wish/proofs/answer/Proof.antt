@@ -9,7 +9,7 @@ use Rattle.wish.proofs.answer.Statement.{statement}
 use Rattle.wish.proofs.answer.Tie as tie
 
 abbrev start : tie.After-is-wish → tie.Start
-start c = c .before .before .before .before
+start c = c .before .before .before .before .before
 
 is-wish-requires : tie.Need-is-wish-requires
 is-wish-requires c κs = search needs

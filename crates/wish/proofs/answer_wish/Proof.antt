@@ -4,8 +4,7 @@ use mathlib.Core.Path.{sym}
 use lib.Seq.{length-take-le}
 use Rattle.bits.specs.Tab.{tab, blank}
 use Rattle.bits.proofs.Lists.{take-over}
-use Rattle.wish.specs.Scan.{byteIn}
-use Rattle.wish.specs.Wish.{settingsOf}
+use Rattle.wish.specs.Scan.{settingsIn, byteIn}
 use Rattle.wish.proofs.AnswerLaws.{coding-of, coded-line, coded-outcome, coded-fits}
 use borrow.Author.Needs.{needs}
 use Rattle.wish.proofs.answer_wish.Statement.{statement}
@@ -38,7 +37,7 @@ answer-with-requires c κs =
     let call = c .before .before .before in
     let fill = call .before .before .before in
     let a = fill .before .before .before .before .args in
-    let s = settingsOf (a .numbers .now) in
+    let s = settingsIn (a .agreed) (a .numbers .now) in
     let f = byteIn (a .numbers .now) in
     let payload = fill .payload-of .ensures in
     let coding = coding-of {payload = tab (a .bytes) f} s (fill .before .settings-of .ensures) (rw payload (take-over (a .bytes) f (blank 256 0))) (call .code .ensures) in
@@ -54,7 +53,7 @@ returns c =
     let call = line .before .before .before .before in
     let fill = call .before .before .before in
     let a = fill .before .before .before .before .args in
-    let s = settingsOf (a .numbers .now) in
+    let s = settingsIn (a .agreed) (a .numbers .now) in
     let f = byteIn (a .numbers .now) in
     let payload = fill .payload-of .ensures in
     let coding = coding-of {payload = tab (a .bytes) f} s (fill .before .settings-of .ensures) (rw payload (take-over (a .bytes) f (blank 256 0))) (call .code .ensures) in

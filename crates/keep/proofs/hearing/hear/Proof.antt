@@ -1,51 +1,50 @@
--- `hear` reads a frame from the list's parts, and nothing where there is none.
+-- `hear` reads the frame of a call from the list's part, and nothing where there is none.
 -- Assumes nothing.
-use mathlib.Core.Path.{sym, _∙_}
 use Prim.Native.Nat.{_≤_}
-use borrow.Author.Tests.{not-false}
-use Rattle.text.proofs.AnswerLaws.{frame-two}
+use Rattle.capture.proofs.CallLaws.{made-within}
 use borrow.Author.Needs.{needs}
 use Rattle.keep.proofs.hearing.hear.Statement.{statement}
 use Rattle.keep.proofs.hearing.hear.Tie as tie
 
--- a frame has its first two numbers
-two : (c : tie.Else1) → 2 ≤ c .before .before .before .before .before .finish .result .count
-two c =
-    let done = c .before .before .before .before .before .finish in
-    frame-two (done .result) (done .last .1 .0) (sym (c .before .is-frame .ensures) ∙ not-false _ (c .if1 .left))
+-- the symbols start within the numbers
+abbrev done : tie.After-call → tie.After-finish
+done c = c .before .before .before .before .before .before .before
+
+within : (c : tie.After-call) → c .call .given .0 .1 .1 .1 .0 ≤ done c .finish .result .text .count
+within c = made-within _ (done c .finish .last .1 .0) (search needs) (rw (c .call .given .1) at (c .before .before .call-of .ensures))
 
 finish-requires : tie.Need-finish-requires
 finish-requires c κs = search needs
 
-is-frame-requires : tie.Need-is-frame-requires
-is-frame-requires c κs = search needs
+call-of-requires : tie.Need-call-of-requires
+call-of-requires c κs = search needs
 
-same-length : tie.Need-same-length
-same-length c = search needs
+enum-told : tie.Need-enum-told
+enum-told c = search needs
 
-returns : tie.Need-returns
-returns c = search needs
+enum-known-call : tie.Need-enum-known-call
+enum-known-call c = search needs
 
-slice-read-narrow : tie.Need-slice-read-narrow
-slice-read-narrow c = search needs
-
-narrow-requires : tie.Need-narrow-requires
-narrow-requires c κs = search needs
-
-slice-read-hear-frame : tie.Need-slice-read-hear-frame
-slice-read-hear-frame c = search needs
+mul-hear-frame : tie.Need-mul-hear-frame
+mul-hear-frame c = let h = within (c .before) in search needs
 
 sub-hear-frame : tie.Need-sub-hear-frame
-sub-hear-frame c = two (c .before .before .before)
+sub-hear-frame c = within (c .before)
 
 part-hear-frame-start : tie.Need-part-hear-frame-start
-part-hear-frame-start c = let h = two (c .before .before .before .before) in search needs
+part-hear-frame-start c = let h = within (c .before .before) in search needs
 
 part-hear-frame-end : tie.Need-part-hear-frame-end
 part-hear-frame-end c = search needs
 
 hear-frame-requires : tie.Need-hear-frame-requires
 hear-frame-requires c κs = search needs
+
+same-length : tie.Need-same-length
+same-length c = search needs
+
+returns : tie.Need-returns
+returns c = search needs
 
 same-length-2 : tie.Need-same-length-2
 same-length-2 c = search needs
@@ -61,16 +60,16 @@ hear-spec =
     tie.close
     (tie.spec
     finish-requires
-    is-frame-requires
-    same-length
-    returns
-    slice-read-narrow
-    narrow-requires
-    slice-read-hear-frame
+    call-of-requires
+    enum-told
+    enum-known-call
+    mul-hear-frame
     sub-hear-frame
     part-hear-frame-start
     part-hear-frame-end
     hear-frame-requires
+    same-length
+    returns
     same-length-2
     same-length-3
     returns-2)

@@ -12,7 +12,7 @@ read-requires : tie.Need-read-requires
 read-requires c κs = search needs
 
 sort-requires : tie.Need-sort-requires
-sort-requires c κs = rw (c .before .before .before .read .ensures .answer) (read-fits _ _ _ _ _)
+sort-requires c κs = rw (c .before .before .before .read .ensures .answer) (read-fits _ _ _ _ _ _)
 
 same-length : tie.Need-same-length
 same-length c = search needs
@@ -21,4 +21,5 @@ returns : tie.Need-returns
 returns c = search needs
 
 pub hear-frame-spec : {M : Type 1} → statement M
-hear-frame-spec = tie.close (tie.spec slice-aggregate-read read-requires sort-requires same-length returns)
+hear-frame-spec =
+    tie.close (tie.spec slice-aggregate-read read-requires sort-requires same-length returns)

@@ -2,7 +2,7 @@
 -- Assumes nothing.
 use mathlib.Core.Path.{_≡_}
 use lib.ListN.{length}
-use Rattle.text.proofs.ScanLaws.{holds-start}
+use Rattle.capture.proofs.ScanLaws.{holds-start}
 use borrow.Author.Needs.{needs}
 use Rattle.keep.proofs.taking.close_text.Statement.{statement}
 use Rattle.keep.proofs.taking.close_text.Tie as tie
@@ -47,10 +47,9 @@ returns c =
     let heard = begun .before .before .before .before .before .before in
     let start = heard .before .before .before .before .before .before .before .before .before .before in
     let lists = start .pre .lent in
-    let e = begun .begin .ensures in
-    let long : length (heard .hear-behind .last .1 .0) ≡ 834 = search needs in (
+    let long : length (heard .hear-behind .last .1 .0) ≡ 837 = search needs in (
       record {
-        sane = holds-start (begun .begin .result) _ (e .0) (e .1) (e .2) (e .3) long .sane;
+        sane = holds-start (begun .begin .result) _ (begun .begin .ensures) long .sane;
         few = entered .enter .ensures;
         lent = record { texts = long; pairs = search needs; fives = search needs; bytes = search needs; threes = search needs };
       },

@@ -1,0 +1,4 @@
+pub mod AsBefore
+pub mod CallLaws
+pub mod CaptureLaws
+pub mod ScanLaws
