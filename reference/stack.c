@@ -1,8 +1,8 @@
 /* How deep each function of the library reaches into the stack. A thread calls it on a stack that was painted before, and
  * looks up the deepest byte that is not paint any more. Every setting is tried, with short and long frames, with a header
- * and without, clean and spoiled; and days without entries and with many, their files good and spoiled. The small frame of
- * the calling function and the arguments that it pushes are counted in; what the dynamic loader needs to bind memcpy and
- * memset at their first call is not. */
+ * and without, clean and spoiled; and days without entries and with many, their files good and spoiled; and tallies with
+ * room and without, with outcomes of every number. The small frame of the calling function and the arguments that it pushes
+ * are counted in; what the dynamic loader needs to bind memcpy and memset at their first call is not. */
 #define _POSIX_C_SOURCE 200809L
 #include <pthread.h>
 #include <stdio.h>
@@ -27,6 +27,8 @@ static uint16_t frames[255 * LORA_FRAME_ROW], refused[255 * LORA_REFUSED_ROW];
 static size_t settings_len, frames_len, payloads_len, refused_len, file_len;
 static size_t at, left, named;
 static uint8_t section;
+static uint32_t tally[LORA_TALLY_CELLS], taken[LORA_TALLY_CELLS];
+static uint8_t outcome;
 
 static void call_code(void)
 {
@@ -90,6 +92,21 @@ static void call_day_step(void)
     lora_day_step(file, file_len, at, section, left, named, answer, LORA_DAY_STEP_CELLS);
 }
 
+static void call_tally_clear(void)
+{
+    lora_tally_clear(tally, LORA_TALLY_CELLS);
+}
+
+static void call_tally_hear(void)
+{
+    lora_tally_hear(tally, LORA_TALLY_CELLS, outcome, answer, LORA_READ_CELLS);
+}
+
+static void call_tally_take_in(void)
+{
+    lora_tally_take_in(tally, LORA_TALLY_CELLS, taken, LORA_TALLY_CELLS);
+}
+
 struct function {
     const char *name;
     void (*call)(void);
@@ -109,11 +126,17 @@ static struct function agreed_functions[] = {
 static struct function day_functions[] = {
     {"lora_day_write", call_day_write, 0}, {"lora_day_check", call_day_check, 0}, {"lora_day_step", call_day_step, 0},
 };
+static struct function tally_functions[] = {
+    {"lora_tally_clear", call_tally_clear, 0},
+    {"lora_tally_hear", call_tally_hear, 0},
+    {"lora_tally_take_in", call_tally_take_in, 0},
+};
 enum {
     FUNCTIONS = sizeof functions / sizeof functions[0],
     AGREED_FUNCTIONS = sizeof agreed_functions / sizeof agreed_functions[0]
 };
 enum { WRITE, CHECK, STEP, DAY_FUNCTIONS };
+enum { CLEAR, HEAR, TAKE_IN, TALLY_FUNCTIONS };
 
 /* Makes the call and looks for its traces at once: the end of a thread leaves others. */
 static void *called_on_painted_stack(void *function)
@@ -242,6 +265,23 @@ static void measure_day(size_t entries, size_t bytes)
     measure(&day_functions[WRITE]);
 }
 
+/* Hears an outcome of every number, with this many repairs, and takes in a tally. So many in each cell are there before. */
+static void measure_tally(uint32_t before, uint64_t repairs)
+{
+    size_t i;
+    int every;
+
+    answer[4] = repairs;
+    for (every = 0; every <= 255; every++) {
+        for (i = 0; i < LORA_TALLY_CELLS; i++)
+            tally[i] = taken[i] = before;
+        outcome = (uint8_t)every;
+        measure(&tally_functions[HEAR]);
+    }
+    measure(&tally_functions[TAKE_IN]);
+    measure(&tally_functions[CLEAR]);
+}
+
 /* Prints each function's depth; answers the deepest of them and of those before. */
 static size_t printed(const struct function *some, size_t number, size_t deepest)
 {
@@ -269,9 +309,13 @@ int main(void)
     measure_day(0, 0);
     measure_day(3, 20);
     measure_day(255, 254);
+    measure_tally(0, 0);
+    measure_tally(7, 1);
+    measure_tally(UINT32_MAX, 1);
     deepest = printed(functions, FUNCTIONS, deepest);
     deepest = printed(agreed_functions, AGREED_FUNCTIONS, deepest);
     deepest = printed(day_functions, DAY_FUNCTIONS, deepest);
+    deepest = printed(tally_functions, TALLY_FUNCTIONS, deepest);
     printf("deepest: %zu bytes of stack\n", deepest);
     return 0;
 }

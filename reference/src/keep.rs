@@ -4,7 +4,7 @@
 use crate::plain::day::{self, Day, Frame, RefusedFrame, Setting, NUMBERS};
 use crate::text::{self, Capture};
 use crate::types::Refusal;
-use crate::words::refusal_line;
+use crate::words::{lines, refusal_line};
 
 /// The file of these captures, one a line, and the lines on standard error.
 pub fn keep(input: &[u8]) -> (Result<Vec<u8>, Refusal>, String) {
@@ -27,15 +27,6 @@ pub fn keep(input: &[u8]) -> (Result<Vec<u8>, Refusal>, String) {
         Err(refusal) => refusal_line(*refusal),
     };
     (file, errors)
-}
-
-/// The input cut at byte 10; an empty piece at the end is no line.
-fn lines(input: &[u8]) -> Vec<&[u8]> {
-    let mut pieces: Vec<&[u8]> = input.split(|byte| *byte == b'\n').collect();
-    if pieces.last().is_some_and(|last| last.is_empty()) {
-        pieces.pop();
-    }
-    pieces
 }
 
 /// Reads a capture and enters what came out, unless the file can't hold it. Both

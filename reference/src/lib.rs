@@ -4,6 +4,7 @@
 pub mod cases;
 pub mod hurt;
 pub mod keep;
+pub mod panel;
 pub mod plain;
 #[cfg(feature = "linked")]
 pub mod product;

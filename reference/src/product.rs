@@ -2,8 +2,9 @@
 //! The wrapper has types of its own, so that nothing here is shared with it.
 
 use crate::plain::day::{Counts, Entry, Frame, Place, RefusedFrame, Section, Setting};
-use crate::types::{Expected, Header, Kind, Received, Refusal, Settings};
-use chyvandra::{DayEntry, DayFrame, DayPlace, DayRefused, DaySection, DaySetting};
+use crate::plain::tally::{self, CELLS};
+use crate::types::{Expected, Header, Kind, Outcome, Received, Refusal, Settings};
+use chyvandra::{DayEntry, DayFrame, DayPlace, DayRefused, DaySection, DaySetting, RefusalKind};
 
 pub fn code(settings: &Settings, payload: &[u8], out: &mut [u16]) -> Result<usize, Refusal> {
     chyvandra::code(&given(settings), payload, out).map_err(refusal)
@@ -171,6 +172,62 @@ fn entry_of(file: &[u8], entry: DayEntry) -> Entry {
             place: refused.place,
         }),
         DayEntry::End => Entry::End,
+    }
+}
+
+/// The wrapper's tally.
+pub struct Tally(chyvandra::Tally);
+
+impl Tally {
+    pub fn of(cells: [u32; CELLS]) -> Tally {
+        Tally(cells.into())
+    }
+
+    pub fn cells(&self) -> [u32; CELLS] {
+        self.0.clone().into()
+    }
+
+    /// The same, asked one by one.
+    pub fn counts(&self) -> tally::Tally {
+        let mut counts = tally::Tally {
+            heard: self.0.heard(),
+            clean: self.0.clean(),
+            repaired: self.0.repaired(),
+            ..tally::Tally::default()
+        };
+        for (number, count) in counts.refused.iter_mut().enumerate() {
+            *count = self.0.refused(number as u8);
+        }
+        counts
+    }
+
+    pub fn clear(&mut self) {
+        self.0.clear();
+    }
+
+    /// Nothing where the wrapper has no refusal of that number.
+    pub fn hear(&mut self, outcome: &Outcome) -> Option<Result<(), Refusal>> {
+        let outcome = match outcome {
+            Ok(received) => Ok(chyvandra::Received {
+                header: chyvandra::Header {
+                    length: received.header.length,
+                    cr: received.header.cr,
+                    checksum: received.header.checksum,
+                },
+                symbols: received.symbols,
+                repairs: received.repairs,
+                drift: received.drift,
+            }),
+            Err(Refusal { number, place }) => Err(chyvandra::Refusal {
+                kind: RefusalKind::from_number(*number)?,
+                place: *place,
+            }),
+        };
+        Some(self.0.hear(&outcome).map_err(refusal))
+    }
+
+    pub fn take_in(&mut self, other: &Tally) -> Result<(), Refusal> {
+        self.0.take_in(&other.0).map_err(refusal)
     }
 }
 

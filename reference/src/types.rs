@@ -111,6 +111,9 @@ pub struct Received {
     pub drift: i8,
 }
 
+/// What reading a frame gives.
+pub type Outcome = Result<Received, Refusal>;
+
 /// Shorthand for a refusal as an outcome.
 pub fn refuse<T>(number: u8, place: usize) -> Result<T, Refusal> {
     Err(Refusal { number, place })
@@ -120,7 +123,7 @@ pub fn refuse<T>(number: u8, place: usize) -> Result<T, Refusal> {
 pub type Code = fn(&Settings, &[u8], &mut [u16]) -> Result<usize, Refusal>;
 /// An implementation of read: the first list is the payload's, the second takes
 /// the repaired bits of each symbol.
-pub type Read = fn(u8, bool, Expected, &[u16], &mut [u8], &mut [u8]) -> Result<Received, Refusal>;
+pub type Read = fn(u8, bool, Expected, &[u16], &mut [u8], &mut [u8]) -> Outcome;
 /// An implementation of the day's file: its writer, over rows of numbers.
 pub type DayWrite = fn(&[u8], &[u16], &[u8], &[u16], &mut [u8]) -> Result<usize, Refusal>;
 /// Its check.

@@ -1,7 +1,16 @@
-//! What the programs' texts have in common: the mark, words, numbers, hex and the
-//! line of a refusal.
+//! What the programs' texts have in common: lines, the mark, words, numbers, hex and
+//! the line of a refusal.
 
 use crate::types::Refusal;
+
+/// The input cut at byte 10; an empty piece at the end is no line.
+pub fn lines(input: &[u8]) -> Vec<&[u8]> {
+    let mut pieces: Vec<&[u8]> = input.split(|byte| *byte == b'\n').collect();
+    if pieces.last().is_some_and(|last| last.is_empty()) {
+        pieces.pop();
+    }
+    pieces
+}
 
 /// What stands behind the mark `=`, if a line has it as its first byte that is not
 /// a space: it says a frame without a header (document 02, Ask 4).

@@ -6,6 +6,7 @@ pub mod bytes;
 pub mod codeword;
 pub mod day;
 pub mod header;
+pub mod tally;
 
 use crate::types::{refuse, Expected, Header, Kind, Received, Refusal, Settings};
 use crate::MOST_BYTES;

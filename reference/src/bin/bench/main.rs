@@ -2,6 +2,7 @@
 
 mod day;
 mod measure;
+mod tally;
 
 fn main() {
     println!("machine: {}", machine());
@@ -12,6 +13,8 @@ fn main() {
     day::compare_implementations();
     println!();
     day::show_linearity();
+    println!();
+    tally::compare_implementations();
 }
 
 /// The kind of machine that the times are of.

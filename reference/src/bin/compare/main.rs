@@ -1,12 +1,14 @@
 //! Holds the product's library against `plain`: `compare [SEED [COUNT]]`. COUNT
 //! inputs go to the five operations, for frames with and without a header, half as
-//! many to the day's file.
+//! many to the day's file, and half as many runs of calls to a tally.
 
 mod case;
 mod cells;
 mod day_case;
 mod day_outcome;
 mod outcome;
+mod tally_case;
+mod tally_outcome;
 
 use case::Case;
 use day_case::DayCase;
@@ -14,6 +16,7 @@ use reference::cases::days;
 use reference::random::Random;
 use std::fmt::Debug;
 use std::process::ExitCode;
+use tally_case::TallyCase;
 
 /// So many inputs go by between two signs of work.
 const STEP: u64 = 100_000;
@@ -35,7 +38,7 @@ fn main() -> ExitCode {
     println!("seed {seed}");
     let mut random = Random::new(seed);
     let mut comparison = Comparison {
-        wanted: count + count / 2,
+        wanted: count + 2 * (count / 2),
         compared: 0,
         differed: 0,
     };
@@ -52,6 +55,11 @@ fn main() -> ExitCode {
             None => DayCase::new(&mut random),
         };
         let difference = day_outcome::difference(&case, &mut random);
+        comparison.add(&case, difference);
+    }
+    for _ in 0..count / 2 {
+        let case = TallyCase::new(&mut random);
+        let difference = tally_outcome::difference(&case, &mut random);
         comparison.add(&case, difference);
     }
     let Comparison {

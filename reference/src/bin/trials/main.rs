@@ -4,6 +4,8 @@
 //! program, the program that tells which symbols were hurt, or the coding program.
 //! `trials agreed|agreed-hurts|agreed-wishes SEED LINES INPUT OUTPUT`: the same, most
 //! of them for frames without a header.
+//! `trials tallies SEED LINES INPUT OUTPUT`: captures for the program that tallies
+//! them, and its panel.
 //! `trials keep SEED LINES INPUT OUTPUT ERRORS`: captures for the program that
 //! keeps a day, its file and its standard error.
 //! `trials show INPUT OUTPUT`: a file for the program that shows a day.
@@ -20,6 +22,7 @@ mod wishes;
 
 use files::{every_end, Files};
 use reference::cases::days::{all_settings, file_of};
+use reference::panel::Panel;
 use reference::plain::day;
 use reference::random::Random;
 use reference::{cases, hurt, keep, show, text, wish};
@@ -37,6 +40,13 @@ fn main() -> ExitCode {
             };
             println!("keep, seed {seed}, lines {lines}");
             kept_day(Random::new(seed), lines, input, output, errors)
+        }
+        ["tallies", seed, lines, input, output] => {
+            let (Ok(seed), Ok(lines)) = (seed.parse(), lines.parse()) else {
+                return usage();
+            };
+            println!("tallies, seed {seed}, lines {lines}");
+            tallied(Random::new(seed), lines, input, output)
         }
         ["show", input, output] => {
             let file = file_of(&every_end());
@@ -161,6 +171,51 @@ fn answered_lines(
     tally.missing(trial.wanted)
 }
 
+/// What the panel has besides what `frames` must have: the refusals that are of frames
+/// without a header alone, and clean frames.
+const ALSO_TALLIED: [Outcome; 3] = [Outcome::Refused(2), Outcome::Refused(3), Outcome::Accepted];
+
+/// Captures of both kinds and their panel; answers what never occurred.
+fn tallied(mut random: Random, lines: usize, input: &str, output: &str) -> Vec<String> {
+    let mut texts = Vec::new();
+    let mut tally = Tally::default();
+    for line in 0..lines {
+        let capture = random.pick(&[frames::text, agreed::capture]);
+        let text = capture(line, line + 1 == lines, &mut random);
+        assert!(!text.contains(&b'\n'), "line {line} would be two");
+        tally.add(&tally::outcomes(&text, &text::capture_line(&text)));
+        texts.extend(text);
+        texts.push(b'\n');
+    }
+    let panel = Panel::new(&texts);
+    hold_against(&panel, &tally, lines);
+    write(input, &texts);
+    write(output, panel.shown().as_bytes());
+    tally.print();
+    println!("{}", panel.closing().trim_end());
+    tally.missing(&[&frames::WANTED, &ALSO_TALLIED])
+}
+
+/// Holds a panel against the outcomes as counted from the reading program's answers.
+fn hold_against(panel: &Panel, tally: &Tally, lines: usize) {
+    let [clean, repaired] = [Outcome::Accepted, Outcome::Repaired].map(|kind| tally.times(kind));
+    let refused = lines - clean - repaired;
+    let closing = format!("end {lines} {clean} {repaired} {refused}\n");
+    assert_eq!(panel.closing(), closing);
+    let no_capture = tally.times(Outcome::Refused(14));
+    let mut wanted = vec![lines - no_capture, clean, repaired];
+    let numbers = (1..=12).filter(|number| *number != 8);
+    wanted.extend(numbers.map(|number| tally.times(Outcome::Refused(number))));
+    wanted.extend([no_capture, 0]);
+    let shown = panel.shown();
+    let counts: Vec<&str> = shown
+        .lines()
+        .map(|line| line.split_once(": ").expect("a count").1)
+        .collect();
+    let wanted: Vec<String> = wanted.iter().map(usize::to_string).collect();
+    assert_eq!(counts, wanted);
+}
+
 /// Captures of both kinds, the day's file and the lines on standard error; answers
 /// what never occurred.
 fn kept_day(
@@ -210,6 +265,7 @@ fn write(path: &str, content: &[u8]) {
 fn usage() -> ExitCode {
     eprintln!("usage: trials frames|hurts|wishes SEED LINES INPUT OUTPUT");
     eprintln!("       trials agreed|agreed-hurts|agreed-wishes SEED LINES INPUT OUTPUT");
+    eprintln!("       trials tallies SEED LINES INPUT OUTPUT");
     eprintln!("       trials keep SEED LINES INPUT OUTPUT ERRORS");
     eprintln!("       trials show INPUT OUTPUT");
     eprintln!("       trials files SEED INPUT OUTPUT");

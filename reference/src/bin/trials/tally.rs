@@ -34,6 +34,10 @@ impl Tally {
         }
     }
 
+    pub fn times(&self, outcome: Outcome) -> usize {
+        self.0.get(&outcome).copied().unwrap_or(0)
+    }
+
     pub fn print(&self) {
         for (outcome, times) in &self.0 {
             println!("{outcome}: {times}");
@@ -45,7 +49,7 @@ impl Tally {
             .iter()
             .copied()
             .flatten()
-            .filter(|outcome| !self.0.contains_key(outcome))
+            .filter(|outcome| self.times(**outcome) == 0)
             .map(Outcome::to_string)
             .collect()
     }
