@@ -1,7 +1,8 @@
 /* The digital half of a LoRa transceiver: payload bytes to symbol numbers, symbol numbers to payload, the header alone,
  * the symbol count, the time on air. Frames have an explicit header, which says length, CR and checksum flag; or none, and
  * sender and receiver have agreed on these: for them are the functions that end in _agreed. And the day's file: what was
- * received in a day, written, checked and walked. Link with liblora_c.a (x86-64 Linux).
+ * received in a day, written, checked and walked. And the tally: how many frames were heard, accepted and refused. Link with
+ * liblora_c.a (x86-64 Linux).
  *
  * Symbol numbers count from 0 at the preamble's chirp; a station that counts from 1 subtracts first. In block 0, and at low
  * rate in every block, only multiples of 4 are sent, the marks. There a symbol that arrives 2 below to 1 above a mark,
@@ -29,9 +30,10 @@
  *
  * What a function returns:
  *   0          accepted; `answer` holds the values told at the function, from answer[0] on
- *   1 to 16    refused, with a number of the table; answer[0] holds the place, and nothing else is written
- *   255        `answer` has too few cells; nothing is written
- * Cells of `answer`, `out` and `hurts` that are not named stay as they were.
+ *   1 to 17    refused, with a number of the table; answer[0] holds the place, and nothing else is written
+ *   255        `answer`, or a tally, has too few cells; nothing is written
+ * The functions of the tally answer nothing but what they return, and their refusals have place 0.
+ * Cells of `answer`, `out`, `hurts` and `tally` that are not named stay as they were.
  *
  *   No.                        Given when                                               Place
  *   LORA_BAD_SF            1   SF not 7 to 12                                           0
@@ -51,6 +53,8 @@
  *                              bytes of a day's file are left over                      the first of them
  *   LORA_FILE_FIELD       16   a field of a day's file is outside its range             its byte
  *                              entries that a day's file can't hold (day_write)         0
+ *                              an outcome whose number read doesn't give (tally_hear)   0
+ *   LORA_TALLY_FULL       17   a number of a tally would pass 32 bits                   0
  *
  * Codewords are numbered through the frame from 0, block after block, fillers counted. 8 is not used: at 4/7 every codeword
  * can be read. 14 is a number of the programs.
@@ -69,9 +73,9 @@
 #include <stdint.h>
 
 #define LORA_VERSION_MAJOR 4
-#define LORA_VERSION_MINOR 1
+#define LORA_VERSION_MINOR 2
 #define LORA_VERSION_PATCH 0
-#define LORA_VERSION "4.1.0"
+#define LORA_VERSION "4.2.0"
 
 #ifdef __cplusplus
 extern "C" {
@@ -93,6 +97,7 @@ enum {
     LORA_BAD_BANDWIDTH = 13,
     LORA_FILE_LENGTH = 15,
     LORA_FILE_FIELD = 16,
+    LORA_TALLY_FULL = 17,
     LORA_ANSWER_SHORT = 255
 };
 
@@ -114,8 +119,9 @@ static inline const char *lora_meaning(uint8_t number)
     case LORA_CHECKSUM: return "payload checksum wrong";
     case LORA_BAD_BANDWIDTH: return "bandwidth not 125, 250 or 500";
     case LORA_FILE_LENGTH: return "bytes of a day's file missing or left over";
-    case LORA_FILE_FIELD: return "a field of a day's file outside its range";
-    case LORA_ANSWER_SHORT: return "answer has too few cells";
+    case LORA_FILE_FIELD: return "a field of a day's file outside its range, or a number that read doesn't give";
+    case LORA_TALLY_FULL: return "a number of the tally would pass 32 bits";
+    case LORA_ANSWER_SHORT: return "answer or tally has too few cells";
     default: return "no number of this library";
     }
 }
@@ -133,6 +139,15 @@ enum {
     LORA_DAY_WRITE_CELLS = 1,
     LORA_DAY_CHECK_CELLS = 3,
     LORA_DAY_STEP_CELLS = 11
+};
+
+/* A tally: its number of cells, and what stands in them. Refused with the number n is LORA_TALLY_REFUSED + n, n = 0 to 12. */
+enum {
+    LORA_TALLY_CELLS = 16,
+    LORA_TALLY_HEARD = 0,
+    LORA_TALLY_CLEAN = 1,
+    LORA_TALLY_REPAIRED = 2,
+    LORA_TALLY_REFUSED = 3
 };
 
 /* Numbers in a row of day_write. */
@@ -237,6 +252,31 @@ uint8_t lora_day_check(const uint8_t *file, size_t file_len, uint64_t *answer, s
  *   LORA_REFUSED   [5] settings index, [6] number, [7] place */
 uint8_t lora_day_step(const uint8_t *file, size_t file_len, size_t at, uint8_t section, size_t left, size_t settings,
                       uint64_t *answer, size_t answer_len);
+
+/* The tally of a station: a lent list of LORA_TALLY_CELLS numbers of 32 bits, which the caller keeps between the calls:
+ *   [0] frames heard, [1] accepted clean, without repairs, [2] accepted repaired, with one or more,
+ *   [3 + n] refused with the number n, n = 0 to 12; the cells of 0 and 8, which read does not give, stay 0 after a clearing
+ * Cells behind the 16th are neither read nor written.
+ * After a clearing and any run of these calls, [0] is the number of outcomes put in since by calls that returned 0, with a
+ * tally that was taken in those of its own history, and the other 15 cells add up to it: that is proved. It holds where every
+ * tally began with a clearing. One made by hand is taken as it is: its parts need not add up, and a tally that takes it in
+ * carries that on.
+ * Each returns 0 where it is done. If it returns any other number, the whole tally is as it was.
+ *
+ * tally_clear: makes all 16 cells 0. Returns 255 if `tally` has fewer, and refuses nothing. */
+uint8_t lora_tally_clear(uint32_t *tally, size_t tally_len);
+
+/* tally_hear: puts in the outcome of a frame: `number` is what lora_read or lora_read_agreed returned and `answer` what it
+ * left there. One more is heard and, if `number` is 0, one more accepted, clean or repaired as answer[4] says; else one more
+ * refused with the number, and `answer` is not looked at: it may be NULL with 0 cells.
+ * Returns 255 if `tally` has fewer than 16 cells, or if `number` is 0 and `answer` has fewer than 6. Checks 16: read gives 1 to
+ * 7 and 9 to 12 (a 255 that it returned is no outcome); then 17. */
+uint8_t lora_tally_hear(uint32_t *tally, size_t tally_len, uint8_t number, const uint64_t *answer, size_t answer_len);
+
+/* tally_take_in: adds another station's tally, cell by cell. `other` stays as it is. The two don't overlap, so a tally is not
+ * taken into itself: copy it first.
+ * Returns 255 if either has fewer than 16 cells. Checks 17. */
+uint8_t lora_tally_take_in(uint32_t *tally, size_t tally_len, const uint32_t *other, size_t other_len);
 
 #ifdef __cplusplus
 }

@@ -6,20 +6,22 @@
 //! 1.
 //!
 //! Each function returns 0 for an acceptance, with the values told at the
-//! function in `answer`; 1 to 16 for a refusal, with its place in `answer[0]`
-//! and nothing else written; [`ANSWER_SHORT`] where `answer` has too few cells,
-//! with nothing written. Cells that are not named stay as they were.
+//! function in `answer`; 1 to 17 for a refusal, with its place in `answer[0]`
+//! and nothing else written; [`ANSWER_SHORT`] where `answer`, or a tally, has too few
+//! cells, with nothing written. The functions of the tally answer nothing but what
+//! they return, and their refusals have place 0. Cells that are not named stay as they
+//! were.
 //!
 //! # Safety
 //!
 //! The same holds for each function: a pointer is aligned, and not null unless
-//! the number is 0; its elements may be read, and those of `out`, `hurts` and
-//! `answer` written, until the call returns; and the lists of one call do not
-//! overlap.
+//! the number is 0; its elements may be read, and those of `out`, `hurts`, `tally` and
+//! of an `answer` that is not `const` written, until the call returns; and the lists of
+//! one call do not overlap.
 //! All other numbers may be anything. Any number of threads may call at once,
 //! each with lists of its own that no other thread writes.
 
-/// Returned where `answer` has too few cells.
+/// Returned where `answer`, or a tally, has too few cells.
 pub const ANSWER_SHORT: u8 = 255;
 
 /// Cells of `answer` that count, airtime and code need.
@@ -29,6 +31,8 @@ pub const HEAD_CELLS: usize = 3;
 /// Cells of `answer` that read needs: length, CR, checksum flag, symbols used,
 /// codewords repaired, drift.
 pub const READ_CELLS: usize = 6;
+/// Which of them is the codewords repaired.
+pub const READ_REPAIRS: usize = 4;
 /// Cells of `answer` that day_write needs: the file's length.
 pub const DAY_WRITE_CELLS: usize = 1;
 /// Cells of `answer` that day_check needs: settings, frames, refused frames.
@@ -36,6 +40,17 @@ pub const DAY_CHECK_CELLS: usize = 3;
 /// Cells of `answer` that day_step needs: what stands there, the place behind it
 /// in four cells, the fields in up to six.
 pub const DAY_STEP_CELLS: usize = 11;
+
+/// Cells of a tally: heard, accepted clean, accepted repaired, refused with 0 to 12.
+pub const TALLY_CELLS: usize = 16;
+/// Which of them is heard.
+pub const TALLY_HEARD: usize = 0;
+/// Which of them is accepted clean.
+pub const TALLY_CLEAN: usize = 1;
+/// Which of them is accepted repaired.
+pub const TALLY_REPAIRED: usize = 2;
+/// Which of them is refused with 0. Those for 1 to 12 are behind it.
+pub const TALLY_REFUSED: usize = 3;
 
 extern "C" {
     /// Answers the number of symbols in `answer[0]`. Checks 1, 2, 3.
@@ -213,5 +228,26 @@ extern "C" {
         settings: usize,
         answer: *mut u64,
         answer_len: usize,
+    ) -> u8;
+
+    /// Makes the [`TALLY_CELLS`] cells 0.
+    pub fn lora_tally_clear(tally: *mut u32, tally_len: usize) -> u8;
+
+    /// Puts in the outcome of a frame: the number that read returned and, if it is 0,
+    /// the answer that it left. Checks 16, then 17.
+    pub fn lora_tally_hear(
+        tally: *mut u32,
+        tally_len: usize,
+        number: u8,
+        answer: *const u64,
+        answer_len: usize,
+    ) -> u8;
+
+    /// Adds another tally, cell by cell. Checks 17.
+    pub fn lora_tally_take_in(
+        tally: *mut u32,
+        tally_len: usize,
+        other: *const u32,
+        other_len: usize,
     ) -> u8;
 }

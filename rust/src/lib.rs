@@ -4,14 +4,15 @@
 //! ([`airtime`]). Frames have a header that says their length, code rate and
 //! checksum flag, or have none, and sender and receiver have agreed on these
 //! ([`Kind`]). And the day's file, what was received in a day: written
-//! ([`day_write`]), checked ([`day_check`]) and walked ([`day_step`]).
+//! ([`day_write`]), checked ([`day_check`]) and walked ([`day_step`]). And how many
+//! frames were heard, accepted and refused ([`Tally`]).
 //!
 //! This is a thin wrapper of Chyvandra's static library, whose functions are
 //! proved to answer what is told here for every input: slices and `Result` here,
 //! pointers and numbers there ([`ffi`]). There is no state and no allocation.
 //!
-//! A refusal hands back its kind and place alone and leaves every lent list as it
-//! was. An acceptance writes the first cells of a list, as many as it answers, and
+//! A refusal hands back its kind and place alone and leaves every lent list, and a
+//! tally, as it was. An acceptance writes the first cells of a list, as many as it answers, and
 //! no other.
 //!
 //! Symbol numbers count from 0 at the preamble's chirp; a station that counts
@@ -59,12 +60,14 @@
 mod day;
 pub mod ffi;
 mod refusal;
+mod tally;
 
 pub use day::{
     day_check, day_step, day_write, DayCounts, DayEntry, DayFrame, DayPlace, DayRefused,
     DaySection, DaySetting, LONGEST_FILE,
 };
 pub use refusal::{Refusal, RefusalKind};
+pub use tally::Tally;
 
 /// The most symbols that a frame can have: so many cells are always enough for
 /// [`code`], and for the hurts that [`read`] fills in.

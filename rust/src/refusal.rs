@@ -37,15 +37,18 @@ pub enum RefusalKind {
     /// or left over, and the place is the first of them.
     FileLength = 15,
     /// 16: a field of a day's file is outside its range, and the place is its
-    /// byte; or a day's file can't hold the entries, and the place is 0.
+    /// byte; or a day's file can't hold the entries, and the place is 0; or a tally
+    /// is told of a refusal whose number read doesn't give, and the place is 0.
     FileField = 16,
+    /// 17: a number of a tally would pass 32 bits.
+    TallyFull = 17,
 }
 
 use RefusalKind::*;
 
 /// All kinds. 8 is not used, since at 4/7 every codeword can be read; 14 is a
 /// number of the programs alone.
-const KINDS: [RefusalKind; 14] = [
+const KINDS: [RefusalKind; 15] = [
     BadSf,
     BadCr,
     TooLong,
@@ -60,6 +63,7 @@ const KINDS: [RefusalKind; 14] = [
     BadBandwidth,
     FileLength,
     FileField,
+    TallyFull,
 ];
 
 impl RefusalKind {
@@ -84,7 +88,10 @@ impl RefusalKind {
             Checksum => "payload checksum wrong",
             BadBandwidth => "bandwidth not 125, 250 or 500",
             FileLength => "bytes of a day's file missing or left over",
-            FileField => "a field of a day's file outside its range",
+            FileField => {
+                "a field of a day's file outside its range, or a number that read doesn't give"
+            }
+            TallyFull => "a number of the tally would pass 32 bits",
         }
     }
 }
@@ -99,7 +106,7 @@ pub struct Refusal {
 }
 
 impl Refusal {
-    /// The refusal's number, 1 to 16.
+    /// The refusal's number, 1 to 17.
     pub fn number(&self) -> u8 {
         self.kind as u8
     }
