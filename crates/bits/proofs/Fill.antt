@@ -6,8 +6,8 @@ use Prim.Native.Nat.{ℕ, _+_, _<_, _≤_}
 use native.Mathlib.Omega.{arith}
 use lib.ListN.{length, getD, set, length-set}
 use lib.Seq.{set-getD}
-use Rattle.bits.specs.Tab.{over, overAt}
-use Rattle.bits.proofs.Tabs.{over-none, over-more, getD-over-rest, overAt-none, overAt-more, overAt-on, overAt-cong, length-over, length-overAt, over-on}
+use Rattle.bits.specs.Tab.{tab, over, overAt}
+use Rattle.bits.proofs.Tabs.{over-none, over-more, getD-over-rest, overAt-none, overAt-more, overAt-on, overAt-cong, over-all, length-over, length-overAt, over-on}
 
 -- l is d with its first n cells by the rule f
 pub record Filled {A : Type 0} (f : ℕ → A) (d : List A) (n : ℕ) (l : List A) : Type 0 where
@@ -39,6 +39,10 @@ module _ {A : Type 0} where
 
   pub filled-end : {f : ℕ → A} {d : List A} {m n : ℕ} {l : List A} → Filled f d m l → m ≡ n → l ≡ over n f d
   filled-end {f} {d} p e = rw e at (p .is)
+
+  -- a list that is filled whole
+  pub filled-whole : {f : ℕ → A} {d l : List A} {m : ℕ} (n : ℕ) → Filled f d m l → m ≡ n → length d ≡ n → l ≡ tab n f
+  filled-whole {f} {d} n p e k = filled-end p e ∙ over-all n f d (omega arith)
 
   -- a piece of m cells more
   pub filled-on : {f g : ℕ → A} {d : List A} {n m : ℕ} {l k : List A} → Filled f d n l → n + m ≤ length d → k ≡ overAt n m g l

@@ -27,13 +27,13 @@ unfolding tab sum
 sum-zero zero f z = refl
 sum-zero (suc n) f z = sum-more n f ∙ omega (arith, sum-zero n f (λ t h. z t (omega arith)), z n (omega arith))
 
-sum-add : (n : ℕ) (f g : ℕ → ℕ) → sum (tab n (λ t. f t + g t)) ≡ sum (tab n f) + sum (tab n g)
+pub sum-add : (n : ℕ) (f g : ℕ → ℕ) → sum (tab n (λ t. f t + g t)) ≡ sum (tab n f) + sum (tab n g)
 unfolding tab sum
 sum-add zero f g = refl
 sum-add (suc n) f g = sum-more n (λ t. f t + g t) ∙ omega (arith, sum-add n f g, sum-more n f, sum-more n g)
 
 -- a single cell
-sum-one : (n k : ℕ) (b : Bool) → (b ≡ true → k < n) → sum (tab n (λ t. asBit (b && eqb k t))) ≡ asBit b
+pub sum-one : (n k : ℕ) (b : Bool) → (b ≡ true → k < n) → sum (tab n (λ t. asBit (b && eqb k t))) ≡ asBit b
 sum-one n k false h = sum-zero n _ (λ t l. refl)
 sum-one zero k true h = absurd (omega (arith, h refl))
 sum-one (suc n) k true h = sum-more n (λ t. asBit (eqb k t)) ∙ at (ℕ-discrete k n) (λ l. sum-one n k true (λ _. l))

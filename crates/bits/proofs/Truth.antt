@@ -1,13 +1,18 @@
 -- Laws of truth values and of checks that the kit's `mathlib.Core.Bool` lacks.
 -- Assumes nothing.
-use mathlib.Core.Path.{_≡_, refl}
-use mathlib.Core.Bool.{Bool, true, false, cond}
+use mathlib.Core.Path.{_≡_, refl, sym}
+use mathlib.Core.Bool.{Bool, true, false, true≢false, _&&_, cond}
 use Rattle.bits.specs.Check.{check}
 
 -- what can't be true is false
 pub refuted : (t : Bool) → (t ≡ true → ⊥) → t ≡ false
 refuted true never = absurd (never refl)
 refuted false never = refl
+
+-- two tests that hold together both hold
+pub both-true : (a b : Bool) → a && b ≡ true → (a ≡ true) × (b ≡ true)
+both-true true b e = (refl, e)
+both-true false b e = absurd (true≢false (sym e))
 
 module _ {A : Type 0} where
   -- a test between two that are the same

@@ -11,11 +11,8 @@ use lib.Dec.{ltb}
 use lib.ListN.{length, getD, drop, length-append, length-drop}
 use lib.Seq.{drop-cons, drop-drop, drop-at}
 use Rattle.bits.specs.Check.{check}
+pub use Rattle.bits.proofs.Truth.{both-true}
 use Rattle.day.specs.Script.{Script, done, byte, _>>=_, one, many, Walked, came, stop, walk, Form, goodEach, putEach}
-
-pub both-true : (p q : Bool) → p && q ≡ true → (p ≡ true) × (q ≡ true)
-both-true true q e = (refl, e)
-both-true false q e = absurd (let z : _≡_ {A = Bool} false true = e in let y : _≡_ {A = ℕ} 0 1 = cc in omega arith)
 
 pub true-both : {p q : Bool} → p ≡ true → q ≡ true → p && q ≡ true
 true-both {p} {q} e f = rw (e, f)

@@ -30,3 +30,8 @@ pub const BAD_TEXT: u8 = 14;
 pub const FILE_LENGTH: u8 = 15;
 
 pub const FILE_FIELD: u8 = 16;
+
+// The tally's 16: an outcome that read doesn't give.
+pub const NO_OUTCOME: u8 = 16;
+
+pub const TALLY_FULL: u8 = 17;
