@@ -1,2 +1,3 @@
 pub mod FrontLaws
 pub mod SignedLaws
+pub mod TallyLaws

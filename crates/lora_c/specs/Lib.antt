@@ -1,2 +1,3 @@
 pub mod DayExport
 pub mod Export
+pub mod TallyExport

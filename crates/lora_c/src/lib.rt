@@ -1,6 +1,6 @@
-// The five operations for C and Rust, of frames with a header; those of frames without one are in `agreed`. A flag is 0 for off, any
-// other number for on. Each returns 0 for an acceptance, a refusal's number with its place in answer[0], or 255 where `answer` has
-// too few cells, and then nothing is written.
+// The five operations for C and Rust, of frames with a header; those of frames without one are in `agreed`, the day's file in
+// `day_file`, the tally in `tallies`. A flag is 0 for off, any other number for on. Each returns 0 for an acceptance, a refusal's
+// number with its place in answer[0], or 255 where `answer` has too few cells, and then nothing is written.
 ghost use mathlib.Core.Path.{_≡_};
 ghost use Prim.Native.Nat.{_≤_};
 ghost use lib.ListN.{length};
@@ -15,6 +15,7 @@ ghost use Rattle.lora_c.specs.Export.{flagOf, explicitOf, cellOf, front,
 
 mod agreed;
 mod day_file;
+mod tallies;
 
 use lora::Counted;
 use lora::Expected;

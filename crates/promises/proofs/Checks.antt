@@ -52,7 +52,7 @@ module _ (numbers : List ℕ) where
   HeadGives (Says h) = Unit
   HeadGives (HeadRefused number place) = oneOf numbers number ≡ true
 
-  abbrev ReadGives : Received → Type 0
+  abbrev pub ReadGives : Received → Type 0
   ReadGives (Payload a) = Unit
   ReadGives (Refused number place) = oneOf numbers number ≡ true
 
@@ -105,7 +105,7 @@ said-among numbers nine ten eleven nibbles = by (checksHold nibbles) (zerosHold 
 abbrev heads : List ℕ → List ℕ
 heads more = 1 ∷ 5 ∷ 6 ∷ 7 ∷ 9 ∷ 10 ∷ 11 ∷ more
 
-abbrev reads : Expected → List ℕ
+abbrev pub reads : Expected → List ℕ
 reads Explicit = heads (4 ∷ 12 ∷ [])
 reads (Agreed agreed cr flag) = 1 ∷ 2 ∷ 3 ∷ 4 ∷ 5 ∷ 6 ∷ 7 ∷ 12 ∷ []
 

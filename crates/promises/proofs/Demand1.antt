@@ -23,7 +23,7 @@ pub record KeptFrom (n : ℕ) (old new : List ℕ) : Type 0 where
   pub cells : (t : ℕ) → n ≤ t → getD new t 0 ≡ getD old t 0
 
 -- a list whose first cells were written by a rule
-kept : (n : ℕ) (f : ℕ → ℕ) (old : List ℕ) {new : List ℕ} → n ≤ length old → new ≡ over n f old → KeptFrom n old new
+pub kept : (n : ℕ) (f : ℕ → ℕ) (old : List ℕ) {new : List ℕ} → n ≤ length old → new ≡ over n f old → KeptFrom n old new
 kept n f old room e = record { long = ap length e ∙ length-over n f old room; cells = λ t h. rw e (getD-over-rest n f old t 0 h) }
 
 -- After a refusal each lent list is as it was.

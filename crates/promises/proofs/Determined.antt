@@ -15,6 +15,10 @@ use Rattle.lora.specs.declared.Counted.{Counted}
 use Rattle.lora.specs.declared.Lasting.{Lasting}
 use Rattle.lora.specs.declared.Heading.{Heading}
 use Rattle.lora.specs.declared.Received.{Received}
+use Rattle.tally.specs.Tally.{Leaves}
+use Rattle.tally.specs.declared.Answer.{Answer}
+use Rattle.tally.specs.declared.Noted.{Noted}
+use Rattle.tally.specs.declared.Tally.{Tally}
 
 pub count-determined : (s : Settings) (len : ℕ) (r r′ : Counted) → r ≡ countOf s len → r′ ≡ countOf s len → r ≡ r′
 count-determined s len r r′ p q = p ∙ sym q
@@ -39,3 +43,7 @@ read-determined sf low expected symbols old new new′ hurts marks marks′ r r�
       p .cells ∙ ap (λ (x : Received). bytesAfter x sf low expected symbols old) same ∙ sym (q .cells),
       p .marks ∙ ap (λ (x : Received). hurtsAfter x sf low expected symbols hurts) same ∙ sym (q .marks),
     )
+
+-- of the tally's three calls, over what they note
+pub tally-determined : (said : Noted) (new new′ : Tally) (r r′ : Answer) → Leaves said new r → Leaves said new′ r′ → (r ≡ r′) × (new ≡ new′)
+tally-determined said new new′ r r′ p q = (p .answer ∙ sym (q .answer), p .tally ∙ sym (q .tally))

@@ -15,6 +15,8 @@ use Rattle.day.specs.declared.Entry.{Entry}
 use Rattle.day_write.specs.declared.Written.{Written}
 use Rattle.lora_c.specs.Export.{Exported, Lent, CountExported, TimeExported, HeadExported, CodeExported, ReadExported}
 use Rattle.lora_c.specs.DayExport.{WriteExported, CheckExported, StepExported}
+use Rattle.lora_c.specs.TallyExport.{TallyExported}
+use Rattle.tally.specs.declared.Noted.{Noted}
 
 -- two outcomes of one call
 pub record Same (r r′ : ℕ) (new new′ : List ℕ) : Type 0 where
@@ -54,3 +56,7 @@ day-check-exported p q = exported (p .is) (q .is)
 
 pub day-step-exported : {a : Entry} {old new new′ : List ℕ} {r r′ : ℕ} → StepExported a old new r → StepExported a old new′ r′ → Same r r′ new new′
 day-step-exported p q = exported (p .is) (q .is)
+
+-- of the tally's three functions, over what they note
+pub tally-exported : {enough : Bool} {n : Noted} {old new new′ : List ℕ} {r r′ : ℕ} → TallyExported enough n old new r → TallyExported enough n old new′ r′ → Same r r′ new new′
+tally-exported p q = record { returned = p .returned ∙ sym (q .returned); answers = p .cells ∙ sym (q .cells) }

@@ -15,5 +15,6 @@ pub mod Exported
 pub mod Checks
 pub mod Perfect
 pub mod Refusals
+pub mod Tallied
 pub mod Small
 pub mod Examples

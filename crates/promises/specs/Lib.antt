@@ -1,3 +1,4 @@
 pub mod Damage
 pub mod Drifted
 pub mod Refusals
+pub mod Tallied
