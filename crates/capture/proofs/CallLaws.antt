@@ -15,7 +15,7 @@ use Rattle.bits.specs.Check.{check}
 use Rattle.bits.specs.Tab.{blank}
 use Rattle.layout.specs.Layout.{validSf}
 use Rattle.line.specs.Line.{lineOf}
-use Rattle.line.specs.Outcome.{outcomeOf}
+use Rattle.line.specs.declared.Outcome.the-variants as outcome
 use Rattle.lora.specs.Read.{Reading}
 use Rattle.lora.specs.declared.Expected.{Expected}
 use Rattle.lora.specs.declared.Expected.the-variants.{Explicit, Agreed}
@@ -178,10 +178,10 @@ module _ (c : Scan) (numbers : List ℕ) where
 
 -- what was read is what the capture is answered by: its line and its outcome
 pub heard-line : {c : Capture} {payload hurts : List ℕ} {r : Received} → Heard c (blank 255 0) payload (blank 832 0) hurts r
-    → Shown r × (lineOf r (payloadIn r payload) ≡ answerTo c) × (outcomeOf r ≡ outcomeTo c)
+    → Shown r × (lineOf r (payloadIn r payload) ≡ answerTo c) × (outcome.Heard r ≡ outcomeTo c)
 heard-line {c} {payload} {hurts} {r} h = by c (h .read)
   where
-    by : (d : Capture) → ReadFor d (blank 255 0) payload (blank 832 0) hurts r → Shown r × (lineOf r (payloadIn r payload) ≡ answerTo d) × (outcomeOf r ≡ outcomeTo d)
+    by : (d : Capture) → ReadFor d (blank 255 0) payload (blank 832 0) hurts r → Shown r × (lineOf r (payloadIn r payload) ≡ answerTo d) × (outcome.Heard r ≡ outcomeTo d)
     by bad e = rw (e .0) (tt, refl, refl)
     by (frame sf low expected symbols) e =
         let f = frame-read e in

@@ -8,8 +8,8 @@ use lib.ListN.{length, getD, drop}
 use Rattle.bits.specs.Bit.{isSet}
 use Rattle.bits.specs.Check.{check}
 use Rattle.line.specs.Line.{lineOf}
-use Rattle.line.specs.Outcome.{outcomeOf}
 use Rattle.line.specs.declared.Outcome.{Outcome}
+use Rattle.line.specs.declared.Outcome.the-variants.{Heard}
 use Rattle.lora.specs.Read.{readOf}
 use Rattle.lora.specs.declared.Expected.{Expected}
 use Rattle.lora.specs.declared.Expected.the-variants.{Explicit, Agreed}
@@ -60,10 +60,10 @@ answerTo (frame sf low expected symbols) = lineFor sf low expected symbols (read
 unfoldable pub answerOf : List ℕ → List ℕ
 answerOf bytes = answerTo (captureOf bytes)
 
--- how a capture is answered: accepted with no repairs, with some, or refused
+-- what came of a capture: what read says of its frame; any that can't be taken is refusal 14
 abbrev pub outcomeTo : Capture → Outcome
-outcomeTo bad = outcomeOf (Refused 14 0)
-outcomeTo (frame sf low expected symbols) = outcomeOf (readOf sf low expected symbols 255 832)
+outcomeTo bad = Heard (Refused 14 0)
+outcomeTo (frame sf low expected symbols) = Heard (readOf sf low expected symbols 255 832)
 
 unfoldable pub outcomeIs : List ℕ → Outcome
 outcomeIs bytes = outcomeTo (captureOf bytes)

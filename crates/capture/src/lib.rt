@@ -10,6 +10,7 @@ use bits::wide16;
 use layout::LONGEST;
 use layout::MOST_SYMBOLS;
 use line::Answer;
+use line::Outcome;
 use lora::Expected;
 use lora::Received;
 
@@ -209,6 +210,17 @@ pub fn receive(done: Scan, numbers: &[u16], payload: &mut [u8], hurts: &mut [u8]
             start,
         } => lora::read(sf, low, expected, &numbers[start..count], payload, hurts),
     }
+}
+
+// What came of the capture that was taken and ends here, where no line is asked.
+pub fn hear(scan: Scan, numbers: &mut [u16]) -> Outcome
+    requires { ⌜ Sane scan (now numbers) ⌝ }
+    ensures { λ r. ⌜ r ≡ outcomeAt (stateOf scan (now (numbers .entry))) ⌝ }
+{
+    let done = finish(scan, numbers);
+    let mut payload = [0u8; LONGEST];
+    let mut hurts = [0u8; MOST_SYMBOLS];
+    Outcome::Heard(receive(done, numbers, &mut payload, &mut hurts))
 }
 
 // The line that answers the capture that was taken and ends here, written to the lent buffer.

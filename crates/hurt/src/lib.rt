@@ -4,7 +4,8 @@ ghost use Prim.Native.Nat.{_+_, _*_, _≤_};
 ghost use lib.ListN.{length};
 ghost use Rattle.bits.specs.Tab.{placed};
 ghost use Rattle.capture.specs.Scan.{Sane, stateOf, outcomeAt};
-ghost use Rattle.line.specs.Outcome.{Answered, outcomeOf};
+ghost use Rattle.line.specs.Outcome.{Answered};
+ghost use Rattle.line.specs.declared.Outcome.the-variants.{Heard};
 ghost use Rattle.put.specs.Put.{Put};
 ghost use Rattle.hurt.specs.Answer.{Marked, lineAt};
 ghost use Rattle.hurt.specs.Hurt.{entry, entriesFrom, okLine, hurtLine, hurtsIn};
@@ -12,6 +13,7 @@ use capture::Scan;
 use layout::LONGEST;
 use layout::MOST_SYMBOLS;
 use line::Answer;
+use line::Outcome;
 use lora::Received;
 use put::put;
 
@@ -66,14 +68,14 @@ fn write_hurt(received: Received, hurts: &[u8], out: &mut [u8]) -> usize
     }
 }
 
-// The line, and how the capture was answered.
+// The line, and what was heard.
 fn answer_with(received: Received, hurts: &[u8], out: &mut [u8]) -> Answer
     requires { ⌜ Marked received × (length (now hurts) ≡ 832) × (7000 ≤ length (now out)) ⌝ }
-    ensures { λ r. ⌜ Answered 7000 (hurtLine received (hurtsIn received (now (hurts .entry)))) (outcomeOf received) (now (out .entry)) (now (out .exit)) r ⌝ }
+    ensures { λ r. ⌜ Answered 7000 (hurtLine received (hurtsIn received (now (hurts .entry)))) (Heard received) (now (out .entry)) (now (out .exit)) r ⌝ }
 {
     Answer {
         length: write_hurt(received, hurts, out),
-        outcome: line::outcome_of(received),
+        outcome: Outcome::Heard(received),
     }
 }
 

@@ -12,7 +12,7 @@ use crate::Step;
 use crate::entering;
 use crate::hearing;
 use crate::hearing::Heard;
-use lines::one_more;
+use panel::one_more;
 
 // Nothing taken yet.
 pub fn begin() -> Progress

@@ -1,22 +1,11 @@
 // The lines on standard error.
-ghost use Prim.Native.Nat.{_+_, _≤_};
+ghost use Prim.Native.Nat.{_≤_};
 ghost use lib.ListN.{length};
 ghost use Rattle.put.specs.Put.{Put};
 ghost use Rattle.keep.specs.Lines.{toldLine, keptLine};
 use crate::Rows;
 use bits::wide;
-
-// Words, from a place on.
-fn put_words(out: &mut [u8], at: usize, words: &[u8]) -> usize
-    requires { ⌜ at + length (now words) ≤ length (now out) ⌝ }
-    ensures { λ r. ⌜ Put at (now (words .entry)) (now (out .entry)) (now (out .exit)) r ⌝ }
-{
-    let mut next = at;
-    for i in 0..words.len() {
-        next = put::put(out, next, words[i]);
-    }
-    next
-}
+use line::put_words;
 
 // The line for a text that the file can't hold, at the buffer's front.
 pub fn put_told(line: usize, number: u8, place: usize, out: &mut [u8]) -> usize

@@ -6,44 +6,26 @@ ghost use lib.ListN.{length};
 ghost use Rattle.bits.specs.Bit.{asBit};
 ghost use Rattle.bits.specs.Tab.{placed};
 ghost use Rattle.line.specs.Line.{decimal, field, hexDigit, hexByte, hex, shown, lineOf};
-ghost use Rattle.line.specs.Outcome.{outcomeOf};
 ghost use Rattle.put.specs.Put.{Put};
 use bits::wide;
 use lora::Received;
 use put::put;
 
-// How a text was answered: accepted with no repairs, accepted with some, refused.
+// What came of a text. Of a capture: what read said of it, or the refusal of a text that is none. Of a wish: that its frame was
+// made, or that it was refused.
 pub enum Outcome {
-    Clean,
-    Repaired,
-    Declined,
+    Heard(Received),
+    Made,
+    Unmade,
 }
 
 // Room for the longest line, and more.
 pub const LINE: usize = 640;
 
-// The line that answers a text, in a lent buffer: its length, and how the text was answered.
+// The line that answers a text, in a lent buffer: its length, and what came of the text.
 pub struct Answer {
     pub length: usize,
     pub outcome: Outcome,
-}
-
-pub fn outcome_of(answer: Received) -> Outcome
-    ensures { λ r. ⌜ r ≡ outcomeOf answer ⌝ }
-{
-    match answer {
-        Received::Payload(a) => {
-            if a.repairs == 0 {
-                Outcome::Clean
-            } else {
-                Outcome::Repaired
-            }
-        }
-        Received::Refused {
-            number: _,
-            place: _,
-        } => Outcome::Declined,
-    }
 }
 
 fn decimal_digit(n: usize) -> u8
@@ -118,6 +100,18 @@ pub fn put_payload(out: &mut [u8], at: usize, payload: &[u8]) -> usize
     let after_space = put(out, at, 32);
     let after_payload = put_shown(out, after_space, payload);
     put(out, after_payload, 10)
+}
+
+// Words, from a place on.
+pub fn put_words(out: &mut [u8], at: usize, words: &[u8]) -> usize
+    requires { ⌜ at + length (now words) ≤ length (now out) ⌝ }
+    ensures { λ r. ⌜ Put at (now (words .entry)) (now (out .entry)) (now (out .exit)) r ⌝ }
+{
+    let mut next = at;
+    for i in 0..words.len() {
+        next = put(out, next, words[i]);
+    }
+    next
 }
 
 // The first field, two letters.

@@ -1,18 +1,21 @@
 -- In whatever chunks an input comes, its answers are those of the whole input, and so are its counts.
 -- Assumes nothing.
-use mathlib.Core.Path.{_≡_, refl, ap, _∙_}
+use mathlib.Core.Path.{_≡_, refl, sym, ap, _∙_}
 use mathlib.Core.Bool.{Bool, true, false}
 use mathlib.Core.List.{List, [], _∷_, _++_, append-assoc, append-nil, flatten}
-use Prim.Native.Nat.{ℕ}
+use Prim.Native.Nat.{ℕ, suc, _+_, _≤_}
+use native.Mathlib.Omega.{arith}
 use lib.Dec.{eqb}
+use lib.ListN.{length}
 use Rattle.capture.proofs.CaptureLaws.{answers-capture, outcome-capture}
 use Rattle.text.specs.Text.{closed}
 use Rattle.wish.proofs.AnswerLaws.{answers-wish, outcome-wish}
 use Rattle.hurt.proofs.AnswerLaws.{answers-hurt}
-use Rattle.lines.specs.Counts.{none, counted}
-use Rattle.lines.specs.Lines.{Job, frames, wishes, hurts, piecesFrom, pieces, lineTo, outcomeTo, linesTo, countsFrom, outputOf, countsOf}
-use Rattle.lines.specs.Stream.{startOf, jobOf, runAt, lineAt, outcomeAt, Point, begin, next, fed, step, run, said, runIn, saidIn, ended, lastSaid}
-use Rattle.lines.specs.declared.Counts.{Counts}
+use Rattle.panel.specs.Counts.{none, largest, counted, Whole}
+use Rattle.panel.proofs.CountsLaws.{whole-none, whole-more}
+use Rattle.panel.specs.declared.Counts.{Counts}
+use Rattle.lines.specs.Lines.{Job, frames, wishes, hurts, tallies, piecesFrom, pieces, lineTo, outcomeTo, linesTo, countsFrom, outputOf, countsOf}
+use Rattle.lines.specs.Stream.{At, frameAt, wishAt, hurtAt, tallyAt, startOf, jobOf, runAt, lineAt, outcomeAt, Point, begin, next, fed, step, run, said, runIn, saidIn, ended, lastLine, lastSaid}
 use Rattle.lines.proofs.StreamLaws.{runAt-none, runAt-append, run-append, said-append}
 
 -- the line and the outcome of a piece whose bytes were taken
@@ -20,16 +23,42 @@ line-is : (job : Job) (bytes : List ℕ) → lineAt (runAt (startOf job) bytes) 
 line-is frames bytes = answers-capture bytes
 line-is wishes bytes = answers-wish bytes
 line-is hurts bytes = answers-hurt bytes
+line-is tallies bytes = refl
 
 outcome-is : (job : Job) (bytes : List ℕ) → outcomeAt (runAt (startOf job) bytes) ≡ outcomeTo job bytes
 outcome-is frames bytes = outcome-capture bytes
 outcome-is wishes bytes = outcome-wish bytes
 outcome-is hurts bytes = outcome-capture bytes
+outcome-is tallies bytes = outcome-capture bytes
+
+-- a run's job stays: with bytes of the open piece, and with the next piece
+job-fed : (a : At) (bytes : List ℕ) → jobOf (runAt a bytes) ≡ jobOf a
+job-fed (frameAt s) bytes = refl
+job-fed (wishAt s) bytes = refl
+job-fed (hurtAt s) bytes = refl
+job-fed (tallyAt s) bytes = refl
+
+job-start : (job : Job) → jobOf (startOf job) ≡ job
+job-start frames = refl
+job-start wishes = refl
+job-start hurts = refl
+job-start tallies = refl
 
 job-is : (job : Job) (bytes : List ℕ) → jobOf (runAt (startOf job) bytes) ≡ job
-job-is frames bytes = refl
-job-is wishes bytes = refl
-job-is hurts bytes = refl
+job-is job bytes = job-fed (startOf job) bytes ∙ job-start job
+
+job-step : (p : Point) (b : ℕ) → jobOf (step p b .piece) ≡ jobOf (p .piece)
+unfolding step next fed
+job-step p b = by (eqb b 10) refl
+  where
+    by : (t : Bool) → eqb b 10 ≡ t → jobOf (step p b .piece) ≡ jobOf (p .piece)
+    by true e = rw e (job-start (jobOf (p .piece)))
+    by false e = rw e (job-fed (p .piece) (b ∷ []))
+
+job-run : (p : Point) (bs : List ℕ) → jobOf (run p bs .piece) ≡ jobOf (p .piece)
+unfolding run
+job-run p [] = refl
+job-run p (b ∷ bs) = job-run (step p b) bs ∙ job-step p b
 
 -- whether a piece has a byte
 unfoldable some : List ℕ → Bool
@@ -59,12 +88,12 @@ point-line job bytes c = line-is job bytes
 
 -- what is said from a point on, with the last piece's line, and the counts at the end, are those of the pieces
 record Answers (job : Job) (p : Point) (c : Counts) (bs : List ℕ) (pieces : List (List ℕ)) : Type 0 where
-  lines : said p bs ++ lastSaid (run p bs) ≡ linesTo job pieces
+  lines : said p bs ++ lastLine (run p bs) ≡ linesTo job pieces
   counts : ended (run p bs) .counts ≡ countsFrom c job pieces
 
 -- the last piece: none if it is empty
 last-piece : (job : Job) (bytes : List ℕ) (c : Counts) → Answers job (point job bytes c) c [] (closed bytes)
-unfolding said run lastSaid ended next point some closed linesTo countsFrom
+unfolding said run lastLine ended next point some closed linesTo countsFrom
 last-piece job [] c = record { lines = refl; counts = refl }
 last-piece job (b ∷ l) c = record { lines = rw (line-is job (b ∷ l), append-nil (lineTo job (b ∷ l))); counts = rw (outcome-is job (b ∷ l)) }
 
@@ -86,6 +115,17 @@ answers : (job : Job) (input : List ℕ) → Answers job (begin job) none input 
 unfolding pieces
 answers job input = rw (begins job) (whole job input [] none)
 
+job-end : (job : Job) (input : List ℕ) → jobOf (run (begin job) input .piece) ≡ job
+unfolding begin
+job-end job input = job-run (begin job) input ∙ job-start job
+
+-- with what stands behind all lines
+output : (job : Job) (input : List ℕ) → said (begin job) input ++ lastSaid (run (begin job) input) ≡ outputOf job input
+unfolding lastSaid outputOf countsOf
+output job input =
+    let a = answers job input in
+    sym (append-assoc (said (begin job) input) (lastLine (run (begin job) input)) _) ∙ rw (a .lines, job-end job input, a .counts)
+
 -- chunks, one after the other, are their input
 run-chunks : (p : Point) (chunks : List (List ℕ)) → runIn p chunks ≡ run p (flatten chunks)
 unfolding runIn flatten run
@@ -99,10 +139,23 @@ said-chunks p (chunk ∷ chunks) = ap (λ (l : List ℕ). said p chunk ++ l) (sa
 
 -- In whatever chunks an input comes, what is said of them from the beginning on, and at the end, is its output.
 pub output-in-chunks : (job : Job) (chunks : List (List ℕ)) → saidIn (begin job) chunks ++ lastSaid (runIn (begin job) chunks) ≡ outputOf job (flatten chunks)
-unfolding outputOf
-output-in-chunks job chunks = rw (said-chunks (begin job) chunks, run-chunks (begin job) chunks) (answers job (flatten chunks) .lines)
+output-in-chunks job chunks = rw (said-chunks (begin job) chunks, run-chunks (begin job) chunks) (output job (flatten chunks))
 
 -- And the counts at the end are its counts.
 pub counts-in-chunks : (job : Job) (chunks : List (List ℕ)) → ended (runIn (begin job) chunks) .counts ≡ countsOf job (flatten chunks)
 unfolding countsOf
 counts-in-chunks job chunks = rw (run-chunks (begin job) chunks) (answers job (flatten chunks) .counts)
+
+-- Each text of an input is counted once, if there are no more than 64 bits count.
+whole-from : (job : Job) (c : Counts) (n : ℕ) (l : List (List ℕ)) → Whole c n → n + length l ≤ largest → Whole (countsFrom c job l) (n + length l)
+unfolding countsFrom
+whole-from job c n [] w h = let e : n + 0 ≡ n = omega arith in rw e w
+whole-from job c n (piece ∷ rest) w h =
+    let e : n + suc (length rest) ≡ n + 1 + length rest = omega arith in
+    rw e (whole-from job (counted c (outcomeTo job piece)) (n + 1) rest (whole-more c n w (omega arith) (outcomeTo job piece)) (omega arith))
+
+pub counts-whole : (job : Job) (input : List ℕ) → length (pieces input) ≤ largest → Whole (countsOf job input) (length (pieces input))
+unfolding countsOf
+counts-whole job input h =
+    let e : 0 + length (pieces input) ≡ length (pieces input) = omega arith in
+    rw (← e) (whole-from job none 0 (pieces input) whole-none (omega arith))

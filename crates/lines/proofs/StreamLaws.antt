@@ -1,7 +1,7 @@
 -- Laws of an input that is taken in chunks.
 -- Assumes nothing.
-use mathlib.Core.Path.{_≡_, refl, ap, _∙_}
-use mathlib.Core.Bool.{Bool, true, false, cond}
+use mathlib.Core.Path.{_≡_, refl, sym, ap, _∙_}
+use mathlib.Core.Bool.{Bool, true, false, cond, false≢true}
 use mathlib.Core.List.{List, [], _∷_, _++_, append-assoc, append-nil}
 use Prim.Native.Nat.{ℕ, _+_, _<_, _≤_}
 use native.Mathlib.Omega.{arith}
@@ -17,13 +17,14 @@ use Rattle.wish.specs.declared.Scan as wish-struct
 use Rattle.capture.proofs.ScanLaws as capture-laws
 use Rattle.wish.proofs.ScanLaws as wish-laws
 use Rattle.line.specs.declared.Outcome.{Outcome}
-use Rattle.lines.specs.Counts.{none, counted}
-use Rattle.lines.specs.Lines.{Job}
-use Rattle.lines.specs.Stream.{At, frameAt, wishAt, hurtAt, startOf, jobOf, runAt, lineAt, outcomeAt, Point, begin, next, fed, step, run, said, ended, lastSaid, pointOf, atOf, SanePiece, PieceHolds, Stands, Begins, part, Clear, Ends, Went}
-use Rattle.lines.specs.declared.Counts.{Counts}
+use Rattle.panel.specs.Counts.{none, counted}
+use Rattle.panel.specs.Panel.{panelOf}
+use Rattle.panel.specs.declared.Counts.{Counts}
+use Rattle.lines.specs.Lines.{Job, endOf}
+use Rattle.lines.specs.Stream.{At, frameAt, wishAt, hurtAt, tallyAt, startOf, jobOf, runAt, lineAt, outcomeAt, Point, begin, next, fed, step, run, said, ended, lastLine, lastSaid, pointOf, atOf, isTally, SanePiece, PieceHolds, Stands, Begins, part, Clear, Ends, Went}
 use Rattle.lines.specs.declared.Progress.{Progress}
 use Rattle.lines.specs.declared.Piece.{Piece}
-use Rattle.lines.specs.declared.Piece.the-variants.{Frame, Wish, Hurt}
+use Rattle.lines.specs.declared.Piece.the-variants.{Frame, Wish, Hurt, Tally}
 use Rattle.lines.proofs.Parts.{part-more, part-none, part-on}
 
 -- the open piece: no byte, and bytes in two parts
@@ -32,11 +33,13 @@ unfolding capture.run wish.run
 runAt-none (frameAt s) = refl
 runAt-none (wishAt s) = refl
 runAt-none (hurtAt s) = refl
+runAt-none (tallyAt s) = refl
 
 pub runAt-append : (a : At) (xs ys : List ℕ) → runAt (runAt a xs) ys ≡ runAt a (xs ++ ys)
 runAt-append (frameAt s) xs ys = ap frameAt (capture-laws.run-append s xs ys)
 runAt-append (wishAt s) xs ys = ap wishAt (wish-laws.run-append s xs ys)
 runAt-append (hurtAt s) xs ys = ap hurtAt (capture-laws.run-append s xs ys)
+runAt-append (tallyAt s) xs ys = ap tallyAt (capture-laws.run-append s xs ys)
 
 -- bytes in two parts
 pub run-append : (p : Point) (xs ys : List ℕ) → run (run p xs) ys ≡ run p (xs ++ ys)
@@ -91,6 +94,9 @@ wish-start h = record { sane = h .sane; is = ap wishAt (h .is) }
 pub hurt-start : {c : capture-struct.Scan} {numbers : List ℕ} → capture.Holds capture.start c numbers → PieceHolds (hurtAt capture.start) (Hurt c) numbers
 hurt-start h = record { sane = h .sane; is = ap hurtAt (h .is) }
 
+pub tally-start : {c : capture-struct.Scan} {numbers : List ℕ} → capture.Holds capture.start c numbers → PieceHolds (tallyAt capture.start) (Tally c) numbers
+tally-start h = record { sane = h .sane; is = ap tallyAt (h .is) }
+
 -- the beginning of a run
 pub begins : (job : Job) {piece : Piece} {counts : Counts} → ((numbers : List ℕ) → length numbers ≡ 837 → PieceHolds (startOf job) piece numbers) → counts ≡ none
     → Begins job (record { piece = piece; begun = false; counts = counts })
@@ -112,6 +118,7 @@ pub sane-long : (piece : Piece) (numbers : List ℕ) → SanePiece piece numbers
 sane-long (Frame scan) numbers s = s .long
 sane-long (Wish scan) numbers s = s .long
 sane-long (Hurt scan) numbers s = s .long
+sane-long (Tally scan) numbers s = s .long
 
 -- bytes were fed to the open piece
 pub stands-fed : (progress : Progress) (old bytes : List ℕ) {piece : Piece} {numbers : List ℕ} → PieceHolds (runAt (atOf (progress .piece) old) bytes) piece numbers
@@ -146,9 +153,29 @@ went-piece {p} {q} {chunk = chunk} {at = at} {end = end} e t h s w =
 
 -- the end of the input, by whether the open piece has a byte
 pub at-end : (progress : Progress) (numbers : List ℕ) (t : Bool) → progress .begun ≡ t
-    → (ended (pointOf progress numbers) ≡ cond t (next (pointOf progress numbers)) (pointOf progress numbers)) × (lastSaid (pointOf progress numbers) ≡ cond t (lineAt (atOf (progress .piece) numbers)) [])
-unfolding ended lastSaid pointOf
+    → (ended (pointOf progress numbers) ≡ cond t (next (pointOf progress numbers)) (pointOf progress numbers)) × (lastLine (pointOf progress numbers) ≡ cond t (lineAt (atOf (progress .piece) numbers)) [])
+unfolding ended lastLine pointOf
 at-end progress numbers t e = rw e (refl, refl)
+
+-- what stands behind all lines: the panel of a run that only counts, and nothing of another
+pub end-panel : (piece : Piece) (numbers : List ℕ) (c : Counts) → isTally piece ≡ true → endOf (jobOf (atOf piece numbers)) c ≡ panelOf c
+end-panel (Frame scan) numbers c e = absurd (false≢true e)
+end-panel (Wish scan) numbers c e = absurd (false≢true e)
+end-panel (Hurt scan) numbers c e = absurd (false≢true e)
+end-panel (Tally scan) numbers c e = refl
+
+pub end-none : (piece : Piece) (numbers : List ℕ) (c : Counts) → isTally piece ≡ false → endOf (jobOf (atOf piece numbers)) c ≡ []
+end-none (Frame scan) numbers c e = refl
+end-none (Wish scan) numbers c e = refl
+end-none (Hurt scan) numbers c e = refl
+end-none (Tally scan) numbers c e = absurd (false≢true (sym e))
+
+-- behind the last piece's line it is put with the counts at the end
+pub put-last : (progress : Progress) (numbers : List ℕ) {last : Progress} {later old mid new : List ℕ} {used r : ℕ} → Stands (ended (pointOf progress numbers)) last later
+    → Put 0 (lastLine (pointOf progress numbers)) old mid used → Put used (endOf (jobOf (atOf (progress .piece) numbers)) (last .counts)) mid new r
+    → Put 0 (lastSaid (pointOf progress numbers)) old new r
+unfolding lastSaid pointOf
+put-last progress numbers s p q = put-on p (rw (← ap (λ (x : Point). x .counts) (s .is)) q)
 
 -- nothing taken yet
 pub went-none : (progress : Progress) (numbers chunk out : List ℕ) (at used : ℕ) → SanePiece (progress .piece) numbers → at ≤ length chunk → used ≤ length out

@@ -11,44 +11,50 @@ use Rattle.put.specs.Put.{Put}
 use Rattle.capture.specs.Scan as capture
 use Rattle.hurt.specs.Answer as hurt
 use Rattle.line.specs.declared.Outcome.{Outcome}
+use Rattle.panel.specs.Counts.{none, counted}
+use Rattle.panel.specs.declared.Counts.{Counts}
 use Rattle.wish.specs.Scan as wish
-use Rattle.lines.specs.Counts.{none, counted}
-use Rattle.lines.specs.Lines.{Job, frames, wishes, hurts}
-use Rattle.lines.specs.declared.Counts.{Counts}
+use Rattle.lines.specs.Lines.{Job, frames, wishes, hurts, tallies, endOf}
 use Rattle.lines.specs.declared.Progress.{Progress}
 use Rattle.lines.specs.declared.Piece.{Piece}
-use Rattle.lines.specs.declared.Piece.the-variants.{Frame, Wish, Hurt}
+use Rattle.lines.specs.declared.Piece.the-variants.{Frame, Wish, Hurt, Tally}
 
 -- the state of the piece that is open, by what is asked of it
 pub data At : Type 0 where
   frameAt : capture.State → At
   wishAt : wish.State → At
   hurtAt : capture.State → At
+  tallyAt : capture.State → At
 
 abbrev pub startOf : Job → At
 startOf frames = frameAt capture.start
 startOf wishes = wishAt wish.start
 startOf hurts = hurtAt capture.start
+startOf tallies = tallyAt capture.start
 
 abbrev pub jobOf : At → Job
 jobOf (frameAt s) = frames
 jobOf (wishAt s) = wishes
 jobOf (hurtAt s) = hurts
+jobOf (tallyAt s) = tallies
 
 abbrev pub runAt : At → List ℕ → At
 runAt (frameAt s) bytes = frameAt (capture.run s bytes)
 runAt (wishAt s) bytes = wishAt (wish.run s bytes)
 runAt (hurtAt s) bytes = hurtAt (capture.run s bytes)
+runAt (tallyAt s) bytes = tallyAt (capture.run s bytes)
 
 abbrev pub lineAt : At → List ℕ
 lineAt (frameAt s) = capture.lineAt s
 lineAt (wishAt s) = wish.lineAt s
 lineAt (hurtAt s) = hurt.lineAt s
+lineAt (tallyAt s) = []
 
 abbrev pub outcomeAt : At → Outcome
 outcomeAt (frameAt s) = capture.outcomeAt s
 outcomeAt (wishAt s) = wish.outcomeAt s
 outcomeAt (hurtAt s) = capture.outcomeAt s
+outcomeAt (tallyAt s) = capture.outcomeAt s
 
 -- where a run stands: the open piece, whether it has a byte yet, and the counts of the pieces before it
 pub record Point : Type 0 where
@@ -93,23 +99,36 @@ saidIn p (chunk ∷ chunks) = said p chunk ++ saidIn (run p chunk) chunks
 unfoldable pub ended : Point → Point
 ended p = cond (p .begun) (next p) p
 
+unfoldable pub lastLine : Point → List ℕ
+lastLine p = cond (p .begun) (lineAt (p .piece)) []
+
+-- and behind its line stands what stands behind all lines
 unfoldable pub lastSaid : Point → List ℕ
-lastSaid p = cond (p .begun) (lineAt (p .piece)) []
+lastSaid p = lastLine p ++ endOf (jobOf (p .piece)) (ended p .counts)
 
 -- the point that the struct and the list of numbers hold
 abbrev pub atOf : Piece → List ℕ → At
 atOf (Frame scan) numbers = frameAt (capture.stateOf scan numbers)
 atOf (Wish scan) numbers = wishAt (wish.stateOf scan numbers)
 atOf (Hurt scan) numbers = hurtAt (capture.stateOf scan numbers)
+atOf (Tally scan) numbers = tallyAt (capture.stateOf scan numbers)
 
 unfoldable pub pointOf : Progress → List ℕ → Point
 pointOf progress numbers = record { piece = atOf (progress .piece) numbers; begun = progress .begun; counts = progress .counts }
+
+-- whether only the panel is asked
+abbrev pub isTally : Piece → Bool
+isTally (Frame scan) = false
+isTally (Wish scan) = false
+isTally (Hurt scan) = false
+isTally (Tally scan) = true
 
 -- a struct as this crate makes it, with a list of 837 numbers
 abbrev pub SanePiece : Piece → List ℕ → Type 0
 SanePiece (Frame scan) numbers = capture.Sane scan numbers
 SanePiece (Wish scan) numbers = wish.Sane scan numbers
 SanePiece (Hurt scan) numbers = capture.Sane scan numbers
+SanePiece (Tally scan) numbers = capture.Sane scan numbers
 
 pub record PieceHolds (a : At) (piece : Piece) (numbers : List ℕ) : Type 0 where
   pub sane : SanePiece piece numbers

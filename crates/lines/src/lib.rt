@@ -7,26 +7,18 @@ ghost use lib.ListN.{length};
 ghost use Rattle.bits.specs.Bit.{asBit};
 ghost use Rattle.line.specs.Outcome.{Answered};
 ghost use Rattle.put.specs.Put.{Put};
-ghost use Rattle.lines.specs.Counts.{none, more, counted, closingLine};
-ghost use Rattle.lines.specs.Lines.{frames as frameJob, wishes as wishJob, hurts as hurtJob};
-ghost use Rattle.lines.specs.Stream.{next, fed, ended, lastSaid, startOf, jobOf, runAt, lineAt, outcomeAt, atOf, pointOf, part, SanePiece, PieceHolds, Stands, Begins, Ends, Went, lineEnds};
+ghost use Rattle.lines.specs.Lines.{frames as frameJob, wishes as wishJob, hurts as hurtJob, tallies as tallyJob, endOf};
+ghost use Rattle.lines.specs.Stream.{next, fed, ended, lastLine, lastSaid, startOf, jobOf, runAt, lineAt, outcomeAt, atOf, pointOf, part, isTally, SanePiece, PieceHolds, Stands, Begins, Ends, Went, lineEnds};
 use line::Answer;
-use line::Outcome;
+use panel::Counts;
 
-// What was taken of the piece that is open: of a capture to be read, of a wish for a frame, or of a capture whose hurt symbols
-// are asked.
+// What was taken of the piece that is open: of a capture to be read, of a wish for a frame, of a capture whose hurt symbols are
+// asked, or of a capture that is only counted.
 pub enum Piece {
     Frame(capture::Scan),
     Wish(wish::Scan),
     Hurt(capture::Scan),
-}
-
-// How many texts were answered: all, accepted with no repairs, accepted with some, refused.
-pub struct Counts {
-    pub texts: usize,
-    pub clean: usize,
-    pub repaired: usize,
-    pub refused: usize,
+    Tally(capture::Scan),
 }
 
 // How far a run has come: the open piece, whether it has a byte yet, and the counts of the pieces before it. The numbers of the
@@ -44,17 +36,6 @@ pub struct Step {
     pub used: usize,
 }
 
-fn nothing() -> Counts
-    ensures { λ r. ⌜ r ≡ none ⌝ }
-{
-    Counts {
-        texts: 0,
-        clean: 0,
-        repaired: 0,
-        refused: 0,
-    }
-}
-
 // A run that reads frames.
 pub fn frames() -> Progress
     ensures { λ r. ⌜ Begins frameJob r ⌝ }
@@ -62,7 +43,7 @@ pub fn frames() -> Progress
     Progress {
         piece: Piece::Frame(capture::begin()),
         begun: false,
-        counts: nothing(),
+        counts: panel::nothing(),
     }
 }
 
@@ -73,7 +54,7 @@ pub fn wishes() -> Progress
     Progress {
         piece: Piece::Wish(wish::begin()),
         begun: false,
-        counts: nothing(),
+        counts: panel::nothing(),
     }
 }
 
@@ -84,7 +65,30 @@ pub fn hurts() -> Progress
     Progress {
         piece: Piece::Hurt(capture::begin()),
         begun: false,
-        counts: nothing(),
+        counts: panel::nothing(),
+    }
+}
+
+// A run that counts what came of captures.
+pub fn tallies() -> Progress
+    ensures { λ r. ⌜ Begins tallyJob r ⌝ }
+{
+    Progress {
+        piece: Piece::Tally(capture::begin()),
+        begun: false,
+        counts: panel::nothing(),
+    }
+}
+
+// Whether a run only counts, and ends with the panel.
+pub fn is_tally(piece: Piece) -> bool
+    ensures { λ r. ⌜ r ≡ isTally piece ⌝ }
+{
+    match piece {
+        Piece::Frame(_) => false,
+        Piece::Wish(_) => false,
+        Piece::Hurt(_) => false,
+        Piece::Tally(_) => true,
     }
 }
 
@@ -96,6 +100,7 @@ fn anew(piece: Piece) -> Piece
         Piece::Frame(_) => Piece::Frame(capture::begin()),
         Piece::Wish(_) => Piece::Wish(wish::begin()),
         Piece::Hurt(_) => Piece::Hurt(capture::begin()),
+        Piece::Tally(_) => Piece::Tally(capture::begin()),
     }
 }
 
@@ -108,6 +113,7 @@ fn feed(piece: Piece, bytes: &[u8], numbers: &mut [u16]) -> Piece
         Piece::Frame(scan) => Piece::Frame(capture::feed(scan, bytes, numbers)),
         Piece::Wish(scan) => Piece::Wish(wish::feed(scan, bytes, numbers)),
         Piece::Hurt(scan) => Piece::Hurt(capture::feed(scan, bytes, numbers)),
+        Piece::Tally(scan) => Piece::Tally(capture::feed(scan, bytes, numbers)),
     }
 }
 
@@ -120,6 +126,10 @@ fn answer(piece: Piece, numbers: &mut [u16], out: &mut [u8]) -> Answer
         Piece::Frame(scan) => capture::answer(scan, numbers, out),
         Piece::Wish(scan) => wish::answer(scan, numbers, out),
         Piece::Hurt(scan) => hurt::answer(scan, numbers, out),
+        Piece::Tally(scan) => Answer {
+            length: 0,
+            outcome: capture::hear(scan, numbers),
+        },
     }
 }
 
@@ -131,39 +141,6 @@ fn answer_behind(piece: Piece, numbers: &mut [u16], out: &mut [u8], used: usize)
     answer(piece, numbers, &mut out[used..])
 }
 
-// One more, up to the largest number there is.
-pub fn one_more(n: usize) -> usize
-    ensures { λ r. ⌜ r ≡ more n ⌝ }
-{
-    if n < usize::MAX { n + 1 } else { n }
-}
-
-// A text was answered.
-fn count_in(c: Counts, outcome: Outcome) -> Counts
-    ensures { λ r. ⌜ r ≡ counted c outcome ⌝ }
-{
-    match outcome {
-        Outcome::Clean => Counts {
-            texts: one_more(c.texts),
-            clean: one_more(c.clean),
-            repaired: c.repaired,
-            refused: c.refused,
-        },
-        Outcome::Repaired => Counts {
-            texts: one_more(c.texts),
-            clean: c.clean,
-            repaired: one_more(c.repaired),
-            refused: c.refused,
-        },
-        Outcome::Declined => Counts {
-            texts: one_more(c.texts),
-            clean: c.clean,
-            repaired: c.repaired,
-            refused: one_more(c.refused),
-        },
-    }
-}
-
 // How far a run has come when a piece was answered, and how many bytes of answers wait now.
 pub struct Closed {
     pub progress: Progress,
@@ -173,7 +150,7 @@ pub struct Closed {
 // Answers the open piece behind the bytes that wait, and opens the next.
 fn close_piece(progress: Progress, numbers: &mut [u16], out: &mut [u8], used: usize) -> Closed
     requires { ⌜ SanePiece (progress .piece) (now numbers) × (used + 17600 ≤ length (now out)) ⌝ }
-    ensures { λ r. ⌜ Stands (next (pointOf progress (now (numbers .entry)))) (r .progress) (now (numbers .exit)) × Put used (lineAt (atOf (progress .piece) (now (numbers .entry)))) (now (out .entry)) (now (out .exit)) (r .used) ⌝ }
+    ensures { λ r. ⌜ Stands (next (pointOf progress (now (numbers .entry)))) (r .progress) (now (numbers .exit)) × Put used (lineAt (atOf (progress .piece) (now (numbers .entry)))) (now (out .entry)) (now (out .exit)) (r .used) × (r .used ≤ used + 17600) ⌝ }
 {
     let piece = progress.piece;
     let counts = progress.counts;
@@ -183,7 +160,7 @@ fn close_piece(progress: Progress, numbers: &mut [u16], out: &mut [u8], used: us
         progress: Progress {
             piece: anew(piece),
             begun: false,
-            counts: count_in(counts, outcome),
+            counts: panel::count_in(counts, outcome),
         },
         used: used + answer.length,
     }
@@ -279,9 +256,9 @@ pub fn take(
 }
 
 // The end of the input: a last piece that is not empty is answered too, at the buffer's front.
-pub fn finish(progress: Progress, numbers: &mut [u16], out: &mut [u8]) -> Closed
+fn close_last(progress: Progress, numbers: &mut [u16], out: &mut [u8]) -> Closed
     requires { ⌜ SanePiece (progress .piece) (now numbers) × (17600 ≤ length (now out)) ⌝ }
-    ensures { λ r. ⌜ Stands (ended (pointOf progress (now (numbers .entry)))) (r .progress) (now (numbers .exit)) × Put 0 (lastSaid (pointOf progress (now (numbers .entry)))) (now (out .entry)) (now (out .exit)) (r .used) ⌝ }
+    ensures { λ r. ⌜ Stands (ended (pointOf progress (now (numbers .entry)))) (r .progress) (now (numbers .exit)) × Put 0 (lastLine (pointOf progress (now (numbers .entry)))) (now (out .entry)) (now (out .exit)) (r .used) × (r .used ≤ 17600) ⌝ }
 {
     if progress.begun {
         return close_piece(progress, numbers, out, 0);
@@ -289,19 +266,31 @@ pub fn finish(progress: Progress, numbers: &mut [u16], out: &mut [u8]) -> Closed
     Closed { progress, used: 0 }
 }
 
-// The line that ends a good run, at the buffer's front.
-pub fn closing(c: Counts, out: &mut [u8]) -> usize
-    requires { ⌜ 100 ≤ length (now out) ⌝ }
-    ensures { λ r. ⌜ Put 0 (closingLine c) (now (out .entry)) (now (out .exit)) r ⌝ }
+// What stands behind all lines, behind the bytes that wait.
+fn put_end(piece: Piece, counts: Counts, out: &mut [u8], used: usize) -> usize
+    requires { ⌜ used + 1000 ≤ length (now out) ⌝ }
+    ensures { λ r. ⌜ ((numbers : List ℕ) → Put used (endOf (jobOf (atOf piece numbers)) counts) (now (out .entry)) (now (out .exit)) r) ⌝ }
 {
-    let after_e = put::put(out, 0, b'e');
-    let after_n = put::put(out, after_e, b'n');
-    let after_end = put::put(out, after_n, b'd');
-    let after_texts = line::put_field(out, after_end, c.texts);
-    let after_clean = line::put_field(out, after_texts, c.clean);
-    let after_repaired = line::put_field(out, after_clean, c.repaired);
-    let after_refused = line::put_field(out, after_repaired, c.refused);
-    put::put(out, after_refused, 10)
+    if is_tally(piece) {
+        panel::put_panel(out, used, counts)
+    } else {
+        used
+    }
+}
+
+// The end of the input: the answer of a last piece that is not empty, and what stands behind all lines, at the buffer's front.
+pub fn finish(progress: Progress, numbers: &mut [u16], out: &mut [u8]) -> Closed
+    requires { ⌜ SanePiece (progress .piece) (now numbers) × (18600 ≤ length (now out)) ⌝ }
+    ensures { λ r. ⌜ Stands (ended (pointOf progress (now (numbers .entry)))) (r .progress) (now (numbers .exit)) × Put 0 (lastSaid (pointOf progress (now (numbers .entry)))) (now (out .entry)) (now (out .exit)) (r .used) ⌝ }
+{
+    let piece = progress.piece;
+    let closed = close_last(progress, numbers, out);
+    let last = closed.progress;
+    let counts = last.counts;
+    Closed {
+        progress: last,
+        used: put_end(piece, counts, out, closed.used),
+    }
 }
 
 fn ends_line(b: u8) -> usize
@@ -320,13 +309,4 @@ pub fn line_ends(out: &[u8], n: usize) -> usize
         ends += ends_line(out[i]);
     }
     ends
-}
-
-// So many answers and so many more, up to the largest number there is.
-pub fn together(answers: usize, more: usize) -> usize {
-    if more <= usize::MAX - answers {
-        answers + more
-    } else {
-        usize::MAX
-    }
 }

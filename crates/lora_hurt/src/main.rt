@@ -14,8 +14,8 @@ symbols, in decimal, with spaces between. A frame without a header has =, the ag
 front. Each line is answered by one line, in order:
   ok INDEX:COUNT INDEX:COUNT ..    each symbol that held repaired bits, from 0 on, and how many; a clean frame is ok alone
   no NUMBER PLACE                  docs/REFUSALS.md says what each number means
-The last line on standard error is 'end TEXTS CLEAN REPAIRED REFUSED' if all was read and written, and else says what
-broke the run off.
+The last line on standard error is 'end TEXTS CLEAN REPAIRED REFUSED' if all was read and written, 'full' in place of 'end'
+if over 4294967295 frames were heard and so not all were counted, and else says what broke the run off.
 ",
     );
 }

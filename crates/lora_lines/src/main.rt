@@ -15,8 +15,8 @@ count from 0. A frame without a header has =, the agreed length, CR and checksum
 Each line is answered by one line, in order:
   ok LENGTH CR CHECKSUM SYMBOLS REPAIRS PAYLOAD    payload in hex, - if empty
   no NUMBER PLACE                                  docs/REFUSALS.md says what each number means
-The last line on standard error is 'end TEXTS CLEAN REPAIRED REFUSED' if all was read and written, and else says what
-broke the run off.
+The last line on standard error is 'end TEXTS CLEAN REPAIRED REFUSED' if all was read and written, 'full' in place of 'end'
+if over 4294967295 frames were heard and so not all were counted, and else says what broke the run off.
 ",
     );
 }

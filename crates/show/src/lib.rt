@@ -11,22 +11,11 @@ use bits::wide16;
 use day::Entry;
 use line::put_field;
 use line::put_payload;
+use line::put_words;
 use put::put;
 
 // Room for the longest line, and more: a payload of 255 bytes, and five numbers.
 pub const LINE: usize = 640;
-
-// Writes a line's first word.
-fn put_word(out: &mut [u8], at: usize, word: &[u8]) -> usize
-    requires { ⌜ at + length (now word) ≤ length (now out) ⌝ }
-    ensures { λ r. ⌜ Put at (now (word .entry)) (now (out .entry)) (now (out .exit)) r ⌝ }
-{
-    let mut next = at;
-    for i in 0..word.len() {
-        next = put(out, next, word[i]);
-    }
-    next
-}
 
 // Writes two numbers and the line's end.
 fn put_two(out: &mut [u8], at: usize, a: usize, b: usize) -> usize
@@ -52,7 +41,7 @@ pub fn put_setting(out: &mut [u8], at: usize, index: usize, sf: usize, low: usiz
     requires { ⌜ at + 640 ≤ length (now out) ⌝ }
     ensures { λ r. ⌜ Put at (settingLine index sf low) (now (out .entry)) (now (out .exit)) r ⌝ }
 {
-    let next = put_word(out, at, b"setting");
+    let next = put_words(out, at, b"setting");
     put_three(out, next, index, sf, low)
 }
 
@@ -69,7 +58,7 @@ pub fn put_frame(
     requires { ⌜ (at + 640 ≤ length (now out)) × (length (now payload) ≤ 255) ⌝ }
     ensures { λ r. ⌜ Put at (frameLine index cr flag repairs (now (payload .entry))) (now (out .entry)) (now (out .exit)) r ⌝ }
 {
-    let after_word = put_word(out, at, b"frame");
+    let after_word = put_words(out, at, b"frame");
     let after_index = put_field(out, after_word, index);
     let after_cr = put_field(out, after_index, cr);
     let after_flag = put_field(out, after_cr, flag);
@@ -83,7 +72,7 @@ pub fn put_refused(out: &mut [u8], at: usize, index: usize, number: usize, place
     requires { ⌜ at + 640 ≤ length (now out) ⌝ }
     ensures { λ r. ⌜ Put at (refusedLine index number place) (now (out .entry)) (now (out .exit)) r ⌝ }
 {
-    let next = put_word(out, at, b"refused");
+    let next = put_words(out, at, b"refused");
     put_three(out, next, index, number, place)
 }
 
@@ -92,7 +81,7 @@ pub fn put_end(out: &mut [u8], at: usize, frames: usize, refused: usize) -> usiz
     requires { ⌜ at + 640 ≤ length (now out) ⌝ }
     ensures { λ r. ⌜ Put at (endLine frames refused) (now (out .entry)) (now (out .exit)) r ⌝ }
 {
-    let next = put_word(out, at, b"end");
+    let next = put_words(out, at, b"end");
     put_two(out, next, frames, refused)
 }
 
@@ -101,7 +90,7 @@ pub fn put_no(out: &mut [u8], at: usize, number: usize, place: usize) -> usize
     requires { ⌜ at + 640 ≤ length (now out) ⌝ }
     ensures { λ r. ⌜ Put at (noLine number place) (now (out .entry)) (now (out .exit)) r ⌝ }
 {
-    let next = put_word(out, at, b"no");
+    let next = put_words(out, at, b"no");
     put_two(out, next, number, place)
 }
 

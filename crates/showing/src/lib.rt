@@ -121,7 +121,7 @@ fn write(lines: usize, out: &[u8], n: usize) -> Shown
 {
     let sent = system::write_first(STDOUT_FILENO, out, n);
     Shown {
-        lines: lines::together(lines, lines::line_ends(out, sent.bytes)),
+        lines: panel::together(lines, lines::line_ends(out, sent.bytes)),
         sent,
     }
 }

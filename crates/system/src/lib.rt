@@ -209,15 +209,30 @@ fn put_number(line: &mut [u8], at: usize, n: usize) -> usize
     put(line, at, &digits[..k])
 }
 
+// The line for a write that failed, up to what came of the run.
+fn put_unwritten(line: &mut [u8], error: usize) -> usize
+    ensures { λ r. ⌜ r ≤ length (now (line .exit)) ⌝ }
+{
+    let mut n = put(line, 0, b"broken off: writing failed (error ");
+    n = put_number(line, n, error);
+    put(line, n, b"), ")
+}
+
 // The line for a write that failed: the whole answers before it were written. A line goes out in one write, so that it stays
 // whole where programs share a standard error.
 pub fn say_unwritten(error: usize, answers: usize) {
     let mut line = [0u8; 128];
-    let mut n = put(&mut line, 0, b"broken off: writing failed (error ");
-    n = put_number(&mut line, n, error);
-    n = put(&mut line, n, b"), ");
+    let mut n = put_unwritten(&mut line, error);
     n = put_number(&mut line, n, answers);
     n = put(&mut line, n, b" whole answers written\n");
+    write_first(STDERR_FILENO, &line, n);
+}
+
+// The same where the answer to all lines is one panel, of which some may be written.
+pub fn say_panel_cut(error: usize) {
+    let mut line = [0u8; 128];
+    let mut n = put_unwritten(&mut line, error);
+    n = put(&mut line, n, b"no whole panel written\n");
     write_first(STDERR_FILENO, &line, n);
 }
 
@@ -256,12 +271,22 @@ pub fn say_unread(error: usize, answers: usize) {
     write_first(STDERR_FILENO, &line, n);
 }
 
-// The same where the answer to all lines is one file, and there is none.
-pub fn say_unkept(error: usize, lines: usize) {
+// The same where there is one answer to all lines, and so none.
+fn say_none(error: usize, lines: usize, none: &[u8]) {
     let mut line = [0u8; 128];
     let mut n = put_unread(&mut line, error, lines);
-    n = put(&mut line, n, b"no file kept\n");
+    n = put(&mut line, n, none);
     write_first(STDERR_FILENO, &line, n);
+}
+
+// Where that answer is a file.
+pub fn say_unkept(error: usize, lines: usize) {
+    say_none(error, lines, b"no file kept\n");
+}
+
+// Where that answer is a panel.
+pub fn say_no_panel(error: usize, lines: usize) {
+    say_none(error, lines, b"no panel written\n");
 }
 
 // The line behind so many.

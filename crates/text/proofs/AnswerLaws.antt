@@ -12,7 +12,7 @@ use borrow.Author.Tests.{leb-false}
 use Rattle.bits.specs.Tab.{blank}
 use Rattle.bits.proofs.Tabs.{length-blank}
 use Rattle.line.specs.Line.{lineOf}
-use Rattle.line.specs.Outcome.{outcomeOf}
+use Rattle.line.specs.declared.Outcome.the-variants.{Heard}
 use Rattle.lora.specs.Read.{readOf, Reading}
 use Rattle.lora.specs.declared.Expected.{Expected}
 use Rattle.lora.specs.declared.Received.{Received}
@@ -59,7 +59,7 @@ narrowed-read sf {n} {low} {expected} {symbols} {old} {new} {hurts} {hurts′} {
 -- what was read is what the frame is answered by: its line and its outcome
 pub frame-read : {sf : ℕ} {low : Bool} {expected : Expected} {symbols payload hurts : List ℕ} {r : Received}
     → Reading sf low expected symbols (blank 255 0) payload (blank 832 0) hurts r → (r ≡ readOf sf low expected symbols 255 832)
-    × (lineOf r (payloadIn r payload) ≡ lineFor sf low expected symbols (readOf sf low expected symbols 255 832)) × (outcomeOf r ≡ outcomeOf (readOf sf low expected symbols 255 832))
+    × (lineOf r (payloadIn r payload) ≡ lineFor sf low expected symbols (readOf sf low expected symbols 255 832)) × (Heard r ≡ Heard (readOf sf low expected symbols 255 832))
 frame-read {sf} {low} {expected} {symbols} {r = r} c =
     let is : r ≡ readOf sf low expected symbols 255 832 = rw (length-blank {A = ℕ} 255 0, length-blank {A = ℕ} 832 0) at (c .answer) in
     (is, rw (c .cells, is), rw is)

@@ -9,8 +9,8 @@ use Rattle.bits.specs.Bit.{isSet}
 use Rattle.bits.specs.Check.{check}
 use Rattle.bits.specs.Tab.{blank}
 use Rattle.line.specs.Line.{lineOf}
-use Rattle.line.specs.Outcome.{outcomeOf}
 use Rattle.line.specs.declared.Outcome.{Outcome}
+use Rattle.line.specs.declared.Outcome.the-variants.{Heard}
 use Rattle.lora.specs.Read.{readOf, bytesAfter}
 use Rattle.lora.specs.declared.Expected.{Expected}
 use Rattle.lora.specs.declared.Expected.the-variants.{Explicit}
@@ -85,10 +85,10 @@ answerTo (frame sf low symbols) = lineFor sf low Explicit symbols (readOf sf low
 unfoldable pub answerOf : List ℕ → List ℕ
 answerOf bytes = answerTo (textOf (wordsFrom [] bytes))
 
--- how a text is answered: accepted with no repairs, with some, or refused
+-- what came of a text: what read says of its frame; any text that can't be taken is refusal 14
 abbrev pub outcomeTo : Text → Outcome
-outcomeTo bad = outcomeOf (Refused 14 0)
-outcomeTo (frame sf low symbols) = outcomeOf (readOf sf low Explicit symbols 255 832)
+outcomeTo bad = Heard (Refused 14 0)
+outcomeTo (frame sf low symbols) = Heard (readOf sf low Explicit symbols 255 832)
 
 unfoldable pub outcomeIs : List ℕ → Outcome
 outcomeIs bytes = outcomeTo (textOf (wordsFrom [] bytes))

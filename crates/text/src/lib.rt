@@ -5,13 +5,15 @@ ghost use Prim.Native.Nat.{_+_, _≤_};
 ghost use lib.ListN.{length};
 ghost use Rattle.bits.specs.Tab.{placed};
 ghost use Rattle.line.specs.Line.{lineOf};
-ghost use Rattle.line.specs.Outcome.{Answered, outcomeOf};
+ghost use Rattle.line.specs.Outcome.{Answered};
+ghost use Rattle.line.specs.declared.Outcome.the-variants.{Heard};
 ghost use Rattle.text.specs.Answer.{Shown, narrowed};
 ghost use Rattle.text.specs.Scan.{Sane, Holds, step, grown, shut, run, ended, stateOf, refusing, isFrame, saysFrame, lineAt, outcomeAt};
 ghost use Rattle.text.specs.Text.{frame, payloadIn, answerTo, outcomeTo};
 use layout::LONGEST;
 use layout::MOST_SYMBOLS;
 use line::Answer;
+use line::Outcome;
 use lora::Expected;
 use lora::Received;
 
@@ -178,14 +180,14 @@ fn line_for(received: Received, payload: [u8; LONGEST], out: &mut [u8]) -> usize
     }
 }
 
-// The line, and how the text was answered.
+// The line, and what was heard.
 pub fn answer_with(received: Received, payload: [u8; LONGEST], out: &mut [u8]) -> Answer
     requires { ⌜ Shown received × (640 ≤ length (now out)) ⌝ }
-    ensures { λ r. ⌜ Answered 640 (lineOf received (payloadIn received payload)) (outcomeOf received) (now (out .entry)) (now (out .exit)) r ⌝ }
+    ensures { λ r. ⌜ Answered 640 (lineOf received (payloadIn received payload)) (Heard received) (now (out .entry)) (now (out .exit)) r ⌝ }
 {
     Answer {
         length: line_for(received, payload, out),
-        outcome: line::outcome_of(received),
+        outcome: Outcome::Heard(received),
     }
 }
 

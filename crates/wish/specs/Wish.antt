@@ -11,7 +11,7 @@ use Rattle.bits.specs.Tab.{tab}
 use Rattle.capture.specs.Capture.{isMark}
 use Rattle.line.specs.Line.{decimal, field, lineOf}
 use Rattle.line.specs.declared.Outcome.{Outcome}
-use Rattle.line.specs.declared.Outcome.the-variants.{Clean, Declined}
+use Rattle.line.specs.declared.Outcome.the-variants.{Made, Unmade}
 use Rattle.lora.specs.Code.{sentSymbol, codeOf}
 use Rattle.lora.specs.Count.{crOf, checkedOf, frameOf}
 use Rattle.lora.specs.declared.Kind.{Kind}
@@ -100,14 +100,14 @@ frontOf (Agreed len cr flag) = (61 ∷ []) ++ (field len ++ (field cr ++ (field 
 unfoldable pub frameLine : Settings → List ℕ → List ℕ
 frameLine s symbols = frontOf (s .kind) ++ (decimal (s .sf) ++ (field (asBit (s .low)) ++ (fields symbols ++ (10 ∷ []))))
 
--- the line for what code answers, into a list of 832 cells; how it was answered
+-- the line for what code answers, into a list of 832 cells; what came of it
 abbrev pub lineFor : Settings → List ℕ → Counted → List ℕ
 lineFor s payload (Symbols count) = frameLine s (tab count (sentSymbol (frameOf s) payload))
 lineFor s payload (Refused number place) = lineOf (received.Refused number place) []
 
 abbrev pub outcomeFor : Counted → Outcome
-outcomeFor (Symbols count) = Clean
-outcomeFor (Refused number place) = Declined
+outcomeFor (Symbols count) = Made
+outcomeFor (Refused number place) = Unmade
 
 -- any text that can't be taken is refusal 14
 abbrev pub answerTo : Wish → List ℕ
@@ -115,7 +115,7 @@ answerTo bad = lineOf (received.Refused 14 0) []
 answerTo (wish s payload) = lineFor s payload (codeOf s payload 832)
 
 abbrev pub outcomeTo : Wish → Outcome
-outcomeTo bad = Declined
+outcomeTo bad = Unmade
 outcomeTo (wish s payload) = outcomeFor (codeOf s payload 832)
 
 unfoldable pub answerOf : List ℕ → List ℕ

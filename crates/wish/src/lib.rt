@@ -8,7 +8,7 @@ ghost use Rattle.bits.specs.Tab.{tab, over, blank};
 ghost use Rattle.line.specs.Line.{lineOf};
 ghost use Rattle.line.specs.Outcome.{Answered};
 ghost use Rattle.put.specs.Put.{Put};
-ghost use Rattle.line.specs.declared.Outcome.the-variants.{Declined};
+ghost use Rattle.line.specs.declared.Outcome.the-variants.{Unmade};
 ghost use Rattle.lora.specs.declared.Received.the-variants as received;
 ghost use Rattle.wish.specs.Answer.{isWish, kindFor, narrow, sentLine, Fitted};
 ghost use Rattle.wish.specs.Scan.{Sane, Holds, Begun, Kept, step, worded, run, stateOf, nextWord, shutWord, grownWord, opened, paired, complete, highOf, digitOf, settingsIn, byteIn, lineAt, outcomeAt};
@@ -349,12 +349,12 @@ fn put_frame(s: Settings, symbols: &[u16], out: &mut [u8]) -> usize
 // The answer to what is refused.
 fn decline(number: u8, place: usize, out: &mut [u8]) -> Answer
     requires { ⌜ 17600 ≤ length (now out) ⌝ }
-    ensures { λ r. ⌜ Answered 17600 (lineOf (received.Refused number place) []) Declined (now (out .entry)) (now (out .exit)) r ⌝ }
+    ensures { λ r. ⌜ Answered 17600 (lineOf (received.Refused number place) []) Unmade (now (out .entry)) (now (out .exit)) r ⌝ }
 {
     let none = [0u8; 1];
     Answer {
         length: line::write_line(Received::Refused { number, place }, &none[..0], out),
-        outcome: Outcome::Declined,
+        outcome: Outcome::Unmade,
     }
 }
 
@@ -366,7 +366,7 @@ fn answer_with(s: Settings, counted: Counted, symbols: &[u16], out: &mut [u8]) -
     match counted {
         Counted::Symbols { count } => Answer {
             length: put_frame(s, &symbols[..count], out),
-            outcome: Outcome::Clean,
+            outcome: Outcome::Made,
         },
         Counted::Refused { number, place } => decline(number, place, out),
     }

@@ -36,16 +36,15 @@ returns : tie.Need-returns
 returns c =
     let taken = c .before .before .before .before in
     let match = taken .before .before .before .before .before in
-    let a = match .before .before .before .before .before .args in
-    rw (match .got .given .1) (follows-chunk (taken .answer-chunk .result) _ (a .progress) _ _ _ (taken .answer-chunk .ensures))
+    rw (match .got .given .1) (follows-chunk (taken .answer-chunk .result .turn) (taken .answer-chunk .ensures))
 
 returns-2 : tie.Need-returns-2
 returns-2 c =
     let start = c .before .before .before .before .before in
-    (c .enum-told .given .1, refl, stands-here (start .args .progress) (start .args .numbers .now) (start .pre .1))
+    record { came = (c .enum-told .given .1, refl, stands-here (start .args .progress) (start .args .numbers .now) (start .pre .1)) }
 
 returns-3 : tie.Need-returns-3
-returns-3 c = (c .before .before .got2 .given .1, refl)
+returns-3 c = record { came = (c .before .before .got2 .given .1, refl) }
 
 pub answer-got-spec : {M : Type 1} → statement M
 answer-got-spec =

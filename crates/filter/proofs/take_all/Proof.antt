@@ -1,12 +1,13 @@
 -- `take_all` takes an input whole, or breaks off.
 -- Assumes nothing.
 use mathlib.Core.List.{List, []}
-use mathlib.Core.Path.{_≡_, _∙_}
+use mathlib.Core.Path.{_≡_, sym, _∙_}
 use Prim.Native.Nat.{ℕ, _≤_}
+use borrow.Author.Tests.{not-true, not-false}
 use lib.ListN.{length}
 use Rattle.lines.specs.Stream.{run, pointOf, Stands}
 use Rattle.lines.proofs.StreamLaws.{stands-here}
-use Rattle.filter.proofs.TurnLaws.{stands-on}
+use Rattle.filter.proofs.TurnLaws.{goes-on, is-over}
 use borrow.Author.Needs.{needs}
 use Rattle.filter.proofs.take_all.Statement.{statement}
 use Rattle.filter.proofs.take_all.Tie as tie
@@ -37,24 +38,8 @@ answer-got-requires c κs =
     let i = read .before .before .before .loop .inv in
     (read .read-some .ensures, i .0 .1 .sane, i .1)
 
-enum-known-turn : tie.Need-enum-known-turn Inv-loop μ-loop
-enum-known-turn c = search needs
-
-loop-less : tie.Need-loop-less Inv-loop μ-loop
-loop-less c = search needs
-
-loop-again : tie.Need-loop-again Inv-loop μ-loop
-loop-again c =
-    let took = c .before .before .before .before .before .before .before in
-    let read = took .before .before .before .before .before .before in
-    let loop = read .before .before .before in
-    let a = loop .before .before .before .before .args in
-    let i = loop .loop .inv in
-    let more = rw (c .before .turn .given .1) at (took .answer-got .ensures) in
-    ((_, stands-on (pointOf (a .progress) (a .numbers .now)) (i .0 .0) _ (i .0 .1) (more .2)), search needs, search needs, search needs, search needs)
-
-enum-known-turn-2 : tie.Need-enum-known-turn-2 Inv-loop μ-loop
-enum-known-turn-2 c = search needs
+goes-on-requires : tie.Need-goes-on-requires Inv-loop μ-loop
+goes-on-requires c κs = search needs
 
 same-length : tie.Need-same-length Inv-loop μ-loop
 same-length c = search needs
@@ -67,13 +52,24 @@ same-length-3 c = search needs
 
 returns : tie.Need-returns Inv-loop μ-loop
 returns c =
-    let took = c .before .before .before .before .before .before .before in
+    let took = c .before .before .before .before .before .before in
     let held = took .before .before .before .before .before .before .before .before .before .loop .inv .0 in
-    let end = rw (c .before .turn2 .given .1) at (took .answer-got .ensures) in
-    (held .0, record { sane = end .2 .sane; is = end .2 .is ∙ held .1 .is })
+    is-over _ (held .0) (held .1) (took .answer-got .result .turn) (sym (c .before .goes-on .ensures) ∙ not-true _ (c .if1 .taken)) (took .answer-got .ensures)
 
-enum-known-turn-3 : tie.Need-enum-known-turn-3 Inv-loop μ-loop
-enum-known-turn-3 c = search needs
+loop-less : tie.Need-loop-less Inv-loop μ-loop
+loop-less c = search needs
+
+loop-again : tie.Need-loop-again Inv-loop μ-loop
+loop-again c =
+    let test = c .before in
+    let took = test .before .before .before .before .before .before in
+    let i = took .before .before .before .before .before .before .before .before .before .loop .inv in (
+      goes-on _ (i .0 .0) (i .0 .1) (took .answer-got .result .turn) (sym (test .before .goes-on .ensures) ∙ not-false _ (test .if1 .left)) (took .answer-got .ensures),
+      search needs,
+      search needs,
+      search needs,
+      search needs,
+    )
 
 same-length-4 : tie.Need-same-length-4 Inv-loop μ-loop
 same-length-4 c = search needs
@@ -87,33 +83,6 @@ same-length-6 c = search needs
 returns-2 : tie.Need-returns-2 Inv-loop μ-loop
 returns-2 c = search needs
 
-enum-known-turn-4 : tie.Need-enum-known-turn-4 Inv-loop μ-loop
-enum-known-turn-4 c = search needs
-
-same-length-7 : tie.Need-same-length-7 Inv-loop μ-loop
-same-length-7 c = search needs
-
-same-length-8 : tie.Need-same-length-8 Inv-loop μ-loop
-same-length-8 c = search needs
-
-same-length-9 : tie.Need-same-length-9 Inv-loop μ-loop
-same-length-9 c = search needs
-
-returns-3 : tie.Need-returns-3 Inv-loop μ-loop
-returns-3 c = search needs
-
-same-length-10 : tie.Need-same-length-10 Inv-loop μ-loop
-same-length-10 c = search needs
-
-same-length-11 : tie.Need-same-length-11 Inv-loop μ-loop
-same-length-11 c = search needs
-
-same-length-12 : tie.Need-same-length-12 Inv-loop μ-loop
-same-length-12 c = search needs
-
-returns-4 : tie.Need-returns-4 Inv-loop μ-loop
-returns-4 c = search needs
-
 pub take-all-spec : {M : Type 1} → statement M
 take-all-spec =
     tie.close
@@ -124,25 +93,14 @@ take-all-spec =
     sub-turns
     read-some-requires
     answer-got-requires
-    enum-known-turn
-    loop-less
-    loop-again
-    enum-known-turn-2
+    goes-on-requires
     same-length
     same-length-2
     same-length-3
     returns
-    enum-known-turn-3
+    loop-less
+    loop-again
     same-length-4
     same-length-5
     same-length-6
-    returns-2
-    enum-known-turn-4
-    same-length-7
-    same-length-8
-    same-length-9
-    returns-3
-    same-length-10
-    same-length-11
-    same-length-12
-    returns-4)
+    returns-2)

@@ -1,6 +1,8 @@
 -- `answer` has the text of the piece's kind answer.
 -- Assumes nothing.
+use mathlib.Core.Path.{refl, sym}
 use native.Mathlib.Omega.{arith}
+use Rattle.bits.proofs.Placed.{placed-nil}
 use borrow.Author.Needs.{needs}
 use Rattle.lines.proofs.answer.Statement.{statement}
 use Rattle.lines.proofs.answer.Tie as tie
@@ -31,6 +33,12 @@ answer-requires-3 c κs =
     let match = c .before .before .before in
     let pre = match .before .before .before .before .pre in
     (rw (match .piece3 .given .1) at (pre .0), omega (arith, pre .1))
+
+enum-known-piece-4 : tie.Need-enum-known-piece-4
+enum-known-piece-4 c = search needs
+
+hear-requires : tie.Need-hear-requires
+hear-requires c κs = let match = c .before .before in rw (match .piece4 .given .1) at (match .before .before .before .before .pre .0)
 
 same-length : tie.Need-same-length
 same-length c = search needs
@@ -65,6 +73,16 @@ returns-3 c =
     let e = answered .answer3 .ensures in
     rw (answered .before .before .before .before .piece3 .given .1) (record { long = e .long; short = omega (arith, e .short); cells = e .cells; is = e .is })
 
+same-length-7 : tie.Need-same-length-7
+same-length-7 c = search needs
+
+returns-4 : tie.Need-returns-4
+returns-4 c =
+    let heard = c .before .before in
+    let match = heard .before .before .before in
+    let out = match .before .before .before .before .args .out .now in
+    rw (match .piece4 .given .1) (record { long = refl; short = omega arith; cells = sym (placed-nil 0 out); is = heard .hear .ensures })
+
 pub answer-spec : {M : Type 1} → statement M
 answer-spec =
     tie.close
@@ -75,6 +93,8 @@ answer-spec =
     answer-requires-2
     enum-known-piece-3
     answer-requires-3
+    enum-known-piece-4
+    hear-requires
     same-length
     same-length-2
     returns
@@ -83,4 +103,6 @@ answer-spec =
     returns-2
     same-length-5
     same-length-6
-    returns-3)
+    returns-3
+    same-length-7
+    returns-4)

@@ -1,5 +1,6 @@
 -- `close_piece` answers the open piece, counts it and opens the next.
 -- Assumes nothing.
+use native.Mathlib.Omega.{arith}
 use Rattle.lines.proofs.StreamLaws.{stands-next, sane-long}
 use borrow.Author.Needs.{needs}
 use Rattle.lines.proofs.close_piece.Statement.{statement}
@@ -32,7 +33,7 @@ returns c =
     let e = answered .answer-behind .ensures in
     let long = sane-long (a .progress .piece) (a .numbers .now) (start .pre .0) in
     let kept = answered .answer-behind .kept in
-    (stands-next (a .progress) (a .numbers .now) (made .anew .ensures (a .numbers .now) _ (search needs)) (c .before .count-in .ensures) (e .2), e .0)
+    (stands-next (a .progress) (a .numbers .now) (made .anew .ensures (a .numbers .now) _ (search needs)) (c .before .count-in .ensures) (e .2), e .0, omega (arith, e .1))
 
 pub close-piece-spec : {M : Type 1} → statement M
 close-piece-spec =

@@ -1,14 +1,15 @@
--- `finish` answers a last piece that is not empty.
+-- `finish` answers the last piece, and writes what stands behind all lines.
 -- Assumes nothing.
-use Rattle.put.proofs.Puts.{put-none}
-use mathlib.Core.Bool.{true, false}
-use Rattle.lines.proofs.StreamLaws.{stands-here, at-end}
+use Rattle.lines.proofs.StreamLaws.{put-last}
 use borrow.Author.Needs.{needs}
 use Rattle.lines.proofs.finish.Statement.{statement}
 use Rattle.lines.proofs.finish.Tie as tie
 
-close-piece-requires : tie.Need-close-piece-requires
-close-piece-requires c κs = search needs
+close-last-requires : tie.Need-close-last-requires
+close-last-requires c κs = search needs
+
+put-end-requires : tie.Need-put-end-requires
+put-end-requires c κs = search needs
 
 same-length : tie.Need-same-length
 same-length c = search needs
@@ -18,18 +19,12 @@ same-length-2 c = search needs
 
 returns : tie.Need-returns
 returns c =
-    let closed = c .before .before .before .before in
-    let test = closed .before .before .before in
-    let a = test .before .before .before .args in
-    let e = at-end (a .progress) (a .numbers .now) true (test .if1 .taken) in
-    (rw (e .0) (closed .close-piece .ensures .0), rw (e .1) (closed .close-piece .ensures .1))
-
-returns-2 : tie.Need-returns-2
-returns-2 c =
-    let start = c .before .before .before in
-    let a = start .args in
-    let e = at-end (a .progress) (a .numbers .now) false (c .if1 .left) in
-    (rw (e .0) (stands-here (a .progress) (a .numbers .now) (start .pre .0)), rw (e .1) (put-none 0 (a .out .now) (search needs)))
+    let end = c .before .before in
+    let closed = end .before .before .before .before .before .before .before .before in
+    let a = closed .before .before .before .before .before .args in
+    let e = closed .close-last .ensures in
+    (e .0, put-last (a .progress) (a .numbers .now) (e .0) (e .1) (end .put-end .ensures (a .numbers .now)))
 
 pub finish-spec : {M : Type 1} → statement M
-finish-spec = tie.close (tie.spec close-piece-requires same-length same-length-2 returns returns-2)
+finish-spec =
+    tie.close (tie.spec close-last-requires put-end-requires same-length same-length-2 returns)

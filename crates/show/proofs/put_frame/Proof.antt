@@ -6,11 +6,11 @@ use borrow.Author.Needs.{needs}
 use Rattle.show.proofs.put_frame.Statement.{statement}
 use Rattle.show.proofs.put_frame.Tie as tie
 
-slice-aggregate-put-word : tie.Need-slice-aggregate-put-word
-slice-aggregate-put-word c = search needs
+slice-aggregate-put-words : tie.Need-slice-aggregate-put-words
+slice-aggregate-put-words c = search needs
 
-put-word-requires : tie.Need-put-word-requires
-put-word-requires c κs = search needs
+put-words-requires : tie.Need-put-words-requires
+put-words-requires c κs = search needs
 
 put-field-requires : tie.Need-put-field-requires
 put-field-requires c κs = search needs
@@ -42,7 +42,7 @@ returns c =
     let flag = repairs .before .before .before .before in
     let cr = flag .before .before .before .before in
     let index = cr .before .before .before .before in
-    put-on (index .before .before .before .before .put-word .ensures)
+    put-on (index .before .before .before .before .put-words .ensures)
     (put-on (index .put-field .ensures .0)
     (put-on (cr .put-field2 .ensures .0)
     (put-on (flag .put-field3 .ensures .0)
@@ -54,8 +54,8 @@ pub put-frame-spec : {M : Type 1} → statement M
 put-frame-spec =
     tie.close
     (tie.spec
-    slice-aggregate-put-word
-    put-word-requires
+    slice-aggregate-put-words
+    put-words-requires
     put-field-requires
     put-field-requires-2
     put-field-requires-3
