@@ -1,4 +1,6 @@
 // Numbers at another width, and powers of two.
+#![tactic(auto)]
+
 ghost use Rattle.std.specs.Prelude.{◌≡◌, ◌^◌, ◌<◌, ◌≤◌};
 
 pub fn wide(x: u8) -> usize

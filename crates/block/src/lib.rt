@@ -1,4 +1,6 @@
 // A block's codewords as symbol words and back, through the grid of bits; a word as a symbol number and back.
+#![tactic(auto)]
+
 ghost use Rattle.std.specs.Prelude.{◌≡◌, false, ℕ, ◌+◌, ◌-◌, ◌*◌, ◌%◌, ◌^◌, ◌<◌, ◌≤◌, length, get_or};
 ghost use Rattle.bits.specs.Bit.{bit, number, is_set, as_bit};
 ghost use Rattle.bits.specs.Tab.{over, blank};

@@ -1,4 +1,6 @@
 // Captures for the programs that take many frames: document 01's text, or a mark, agreed values and then 01's text.
+#![tactic(auto)]
+
 ghost use Rattle.std.specs.Prelude.{◌≡◌, ◌≤◌, length, take};
 ghost use Rattle.line.specs.Outcome.{Answered};
 ghost use Rattle.capture.specs.Call.{Makes, Heard, call_from};
@@ -14,14 +16,14 @@ use lora::{Expected, Received};
 pub const MARK: u8 = 61;
 
 // How far a capture was taken: whether a mark stood in front, and the text of numbers, which stand in a lent list of 837.
-#[derive(Drop)]
+#[derive(Clone, Copy)]
 pub struct Scan {
     pub agreed: bool,
     pub text: text::Scan,
 }
 
 // The call of read that a capture makes: none, or one for a frame whose symbols stand from a place on among its numbers.
-#[derive(Drop)]
+#[derive(Clone, Copy)]
 pub enum Call {
     Bad,
     Frame {
@@ -88,7 +90,7 @@ pub fn take_byte(scan: Scan, b: u8, numbers: &mut [u16]) -> Scan
 }
 
 // How far the front of a capture was taken, and where it ends in the piece.
-#[derive(Drop)]
+#[derive(Clone, Copy)]
 struct Front {
     scan: Scan,
     end: usize,

@@ -1,4 +1,6 @@
 // The payload checksum.
+#![tactic(auto)]
+
 ghost use Rattle.std.specs.Prelude.{◌≡◌};
 ghost use Rattle.bits.specs.Tab.{tab};
 ghost use Rattle.checksum.specs.Checksum.{one_byte, checksum};

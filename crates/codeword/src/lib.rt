@@ -1,4 +1,6 @@
 // A nibble's codeword at each rate, and what a received word is found to be.
+#![tactic(auto)]
+
 ghost use Rattle.std.specs.Prelude.{◌≡◌, ◌+◌, ◌^◌, ◌<◌};
 ghost use Rattle.bits.specs.Tab.{tab};
 ghost use Rattle.codeword.specs.Ranges.{Rate};

@@ -1,4 +1,6 @@
 // From a frame's header, payload and checksum to its symbols, block by block.
+#![tactic(auto)]
+
 ghost use Rattle.std.specs.Prelude.{◌≡◌, ℕ, ◌+◌, ◌*◌, ◌≤◌, ◌<◌, length, get_or};
 ghost use Rattle.bits.specs.Tab.{tab, over, over_at, blank};
 ghost use Rattle.codeword.specs.Rows.{row_of_code};

@@ -9,7 +9,7 @@ use crate::fields::{byte_at, fault, low_first, number_fault, or};
 use bits::wide;
 
 // What stands at a place where a frame should: its fields and where its payload lies; or a refusal.
-#[derive(Drop)]
+#[derive(Clone, Copy)]
 pub enum FrameAt {
     Is {
         setting: u8,
@@ -26,7 +26,7 @@ pub enum FrameAt {
 }
 
 // The place behind what was read; or a refusal.
-#[derive(Drop)]
+#[derive(Clone, Copy)]
 pub enum Went {
     On { at: usize },
     Stop { number: u8, place: usize },

@@ -1,4 +1,6 @@
 // One file for the day: what a file is, checked whole, and the entry that stands at a place of it.
+#![tactic(auto)]
+
 ghost use Rattle.std.specs.Prelude.{◌≡◌};
 ghost use Rattle.day.specs.Day.{kind1, judged};
 ghost use Rattle.day.specs.Stages.{refusal_of, verdict};
@@ -15,7 +17,7 @@ use sections::Part;
 pub use walking::entry_at;
 
 // What the whole file is: how many entries each section has; or a refusal.
-#[derive(Drop)]
+#[derive(Clone, Copy)]
 pub enum Verdict {
     Taken {
         settings: usize,
@@ -39,7 +41,7 @@ pub const REFUSED: u8 = 3;
 
 // Where a walker stands: the place of the next byte, its section (a number above 3 is as 3), how many entries of it are left,
 // and how many settings the file has.
-#[derive(Drop)]
+#[derive(Clone, Copy)]
 pub struct Place {
     pub at: usize,
     pub section: u8,
@@ -49,7 +51,7 @@ pub struct Place {
 
 // What stands at a place: an entry and the place behind it, with a frame's payload from start up to that place; the end of the
 // file; or a refusal.
-#[derive(Drop)]
+#[derive(Clone, Copy)]
 pub enum Entry {
     Setting {
         sf: u8,

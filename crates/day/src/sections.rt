@@ -9,7 +9,7 @@ use crate::fields::{byte_at, fault};
 use bits::wide;
 
 // A section that was read: how many entries it has and the place behind it; or a refusal. Of a count alone the same.
-#[derive(Drop)]
+#[derive(Clone, Copy)]
 pub enum Part {
     Read { entries: usize, at: usize },
     Stop { number: u8, place: usize },

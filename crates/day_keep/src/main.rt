@@ -1,5 +1,7 @@
 // The program that keeps a day: captures on standard input, as lora_lines takes them; the day's file on standard output, or
 // under a name.
+#![tactic(auto)]
+
 ghost use Rattle.std.specs.Prelude.{◌≡◌, ◌≤◌, length};
 ghost use Rattle.keep.specs.Rows.{Few, Going, Lent};
 ghost use Rattle.system.specs.Calls.{Within};
@@ -19,7 +21,7 @@ const FILE: usize = 67603;
 const BUFFER: usize = 67604;
 
 // What a read came to: the run goes on, the captures have ended, or a read failed behind so many whole lines.
-#[derive(Drop)]
+#[derive(Clone, Copy)]
 enum Turn {
     More(Progress),
     Ended(Progress),

@@ -8,7 +8,7 @@ use system::files;
 use system::files::{Contents, Done, Opened};
 
 // What was being done when something failed.
-#[derive(Drop)]
+#[derive(Clone, Copy)]
 enum Step {
     Looking,
     Making,
@@ -21,7 +21,7 @@ enum Step {
 
 // What became of the file: it stands under its name, another one does, it was read back as something else, or a step failed
 // with the system's number for it.
-#[derive(Drop)]
+#[derive(Clone, Copy)]
 enum Kept {
     Whole,
     Other,
@@ -30,7 +30,7 @@ enum Kept {
 }
 
 // What stands under the name: nothing, the very bytes, others, or something that can't be read.
-#[derive(Drop)]
+#[derive(Clone, Copy)]
 enum Found {
     Nothing,
     Same,

@@ -1,4 +1,6 @@
 // A day's file on standard input, its listing on standard output.
+#![tactic(auto)]
+
 ghost use Rattle.std.specs.Prelude.{◌≤◌, length};
 ghost use Rattle.day_show.specs.Turns.{Behind, Within};
 
@@ -6,7 +8,7 @@ use libc::STDOUT_FILENO;
 use system::{Asked, Got};
 
 // What reading came to: so many bytes at the buffer's front, or a failure with the system's number for it.
-#[derive(Drop)]
+#[derive(Clone, Copy)]
 enum Taken {
     Bytes(usize),
     Failed(usize),

@@ -1,9 +1,11 @@
 // Many files in one, each behind its length in four bytes low first: shown one after the other, as day_show shows each.
+#![tactic(auto)]
+
 ghost use Rattle.std.specs.Prelude.{◌≤◌, length};
 ghost use Rattle.day_trials.specs.Packed.{Within};
 
 // The next of the files: so many bytes at the buffer's front; none, where the last one was; or a file that was cut short.
-#[derive(Drop)]
+#[derive(Clone, Copy)]
 enum Packed {
     File(usize),
     End,

@@ -1,12 +1,14 @@
 // A walker over the day's file: it holds the file's bytes and its place in them. On any bytes, at any place, it tells what
 // stands there; a file is checked whole, by `day::check`, before a walker is opened on it.
+#![tactic(auto)]
+
 ghost use Rattle.std.specs.Prelude.{◌≡◌};
 ghost use Rattle.day.specs.Day.{kind1};
 ghost use Rattle.day.specs.Walk.{shown, payload_of, behind, begin};
 
 use day::{Entry, Place};
 
-#[derive(Drop)]
+#[derive(Clone, Copy)]
 pub struct Day<'a> {
     pub bytes: &'a [u8],
     pub place: Place,

@@ -1,4 +1,6 @@
 // The day's file, written into a lent buffer from rows of numbers.
+#![tactic(auto)]
+
 ghost use Rattle.day.specs.Day.{kind1};
 ghost use Rattle.day_write.specs.Write.{Writing};
 
@@ -6,7 +8,7 @@ mod judging;
 mod putting;
 
 // How the writer answers: the file's length; or a refusal, and then the buffer is as it was.
-#[derive(Drop)]
+#[derive(Clone, Copy)]
 pub enum Written {
     Length { bytes: usize },
     Refused { number: u8, place: usize },

@@ -1,4 +1,6 @@
 // How far a symbol at the four-wide spacing is off its mark.
+#![tactic(auto)]
+
 ghost use Rattle.std.specs.Prelude.{◌≡◌, ◌+◌, ◌^◌, ◌≤◌, ◌<◌, pos, ◌-ℤ◌};
 ghost use Rattle.drift.specs.Drift.{mark_of, drift_of};
 

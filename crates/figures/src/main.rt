@@ -1,4 +1,6 @@
 // Prints the published figures beside ours. What is ours comes from the functions of the crates below, never from a constant.
+#![tactic(auto)]
+
 mod lines;
 mod matrices;
 mod ours;

@@ -3,7 +3,7 @@ use crate::{lines, matrices};
 
 // Where in the text we are: the line; which number of ours or of the document's comes next; whether this line's numbers are
 // hexadecimal; what of the document's number is read; whether the document's numbers on this line are ours so far.
-#[derive(Drop)]
+#[derive(Clone, Copy)]
 struct Place {
     line: usize,
     entry: usize,

@@ -4,7 +4,7 @@ ghost use Rattle.std.specs.Prelude.{◌≤◌};
 use crate::{matrices, ours};
 use lora::{Kind, Settings};
 
-#[derive(Drop)]
+#[derive(Clone, Copy)]
 pub enum Rule {
     Formula,
     FormulaAsPrinted,

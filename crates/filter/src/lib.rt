@@ -1,5 +1,7 @@
 // The loop that the filters share: standard input in chunks, the answers to standard output, the closing line to standard
 // error. Answers are written out before each read, which might wait.
+#![tactic(auto)]
+
 ghost use Rattle.std.specs.Prelude.{◌≡◌, ◌≤◌, ◌<◌, length};
 ghost use Rattle.put.specs.Put.{Put};
 ghost use Rattle.lines.specs.Stream.{ended, last_said, point_of, SanePiece, Ready, Went};
@@ -14,7 +16,7 @@ use system::{Got, Sent};
 
 // What a turn came to: the run goes on, the input has ended, a read failed, a write failed. A run that broke off has so many
 // whole answers written, and the system's number for what went wrong.
-#[derive(Drop)]
+#[derive(Clone, Copy)]
 enum Turn {
     More,
     Ended,
@@ -23,7 +25,7 @@ enum Turn {
 }
 
 // How far a run has come, and what its last turn came to.
-#[derive(Drop)]
+#[derive(Clone, Copy)]
 struct After {
     progress: Progress,
     turn: Turn,
@@ -47,7 +49,7 @@ fn goes_on(turn: Turn) -> bool
 }
 
 // How far a run has come after a part of a chunk, the place behind the part, how many bytes answer it, and what became of them.
-#[derive(Drop)]
+#[derive(Clone, Copy)]
 struct Part {
     progress: Progress,
     at: usize,
@@ -170,7 +172,7 @@ fn take_all(progress: Progress, buffer: &mut [u8], numbers: &mut [u16], out: &mu
 }
 
 // The counts of a whole run, how many bytes answer its last piece and its end, and what became of them.
-#[derive(Drop)]
+#[derive(Clone, Copy)]
 struct Last {
     counts: Counts,
     used: usize,

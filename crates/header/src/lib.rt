@@ -1,10 +1,12 @@
 // The five header nibbles, and what five nibbles say.
+#![tactic(auto)]
+
 ghost use Rattle.std.specs.Prelude.{◌≡◌, ◌+◌, ◌*◌, ◌<◌, ◌≤◌};
 ghost use Rattle.bits.specs.Bit.{bit, as_bit};
 ghost use Rattle.header.specs.Header.{c0, c1, c2, c3, c4, low_checks, header_nibbles, checks_hold, zeros_hold, rate_holds, header_in, verdict_of};
 
 // What a header says: the payload's length, the rate, and whether a checksum follows the payload.
-#[derive(Drop)]
+#[derive(Clone, Copy)]
 pub struct Header {
     pub length: usize,
     pub cr: u8,
@@ -12,7 +14,7 @@ pub struct Header {
 }
 
 // What five nibbles say, or the number of the refusal.
-#[derive(Drop)]
+#[derive(Clone, Copy)]
 pub enum Verdict {
     Says(Header),
     Refused { number: u8 },

@@ -1,4 +1,6 @@
 // Which symbols of a frame were hurt, as the line that answers its capture.
+#![tactic(auto)]
+
 ghost use Rattle.std.specs.Prelude.{◌≡◌, ◌+◌, ◌*◌, ◌≤◌, length};
 ghost use Rattle.bits.specs.Tab.{placed};
 ghost use Rattle.capture.specs.Scan.{Sane, state_of, outcome_at};

@@ -10,7 +10,7 @@ use crate::{MOST, Rows};
 use lora::Accepted;
 
 // The index of a settings pair, and how many pairs there are now.
-#[derive(Drop)]
+#[derive(Clone, Copy)]
 struct Setting {
     index: usize,
     settings: usize,

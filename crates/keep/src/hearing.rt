@@ -9,7 +9,7 @@ use layout::MOST_SYMBOLS;
 use lora::{Accepted, Expected, Received};
 
 // A frame that was accepted, or refused with a number that the file holds, and its settings; or a refusal to be told.
-#[derive(Drop)]
+#[derive(Clone, Copy)]
 pub enum Heard {
     Frame {
         sf: u8,

@@ -1,5 +1,7 @@
 // The day's entries, collected from captures that come in chunks of any size: they are cut at each byte 10 as lora_lines cuts
 // them, each text is read, and what came out is entered in lent lists, in the form in which the writer takes a day's entries.
+#![tactic(auto)]
+
 mod entering;
 mod hearing;
 mod taking;
@@ -24,7 +26,7 @@ pub const REFUSED: usize = 768;
 
 // How many entries stand in the lent lists: settings of two numbers, frames of five, refused frames of three; the bytes of
 // the payloads, and how many of the frames have repairs.
-#[derive(Drop)]
+#[derive(Clone, Copy)]
 pub struct Rows {
     pub settings: usize,
     pub frames: usize,
@@ -35,7 +37,7 @@ pub struct Rows {
 
 // How far a run has come: the open text, whether it has a byte yet, how many texts ended before it, how many of these were
 // told, and the entries of the others. The numbers of the open text stand in a lent list of 837.
-#[derive(Drop)]
+#[derive(Clone, Copy)]
 pub struct Progress {
     pub scan: capture::Scan,
     pub begun: bool,
@@ -45,14 +47,14 @@ pub struct Progress {
 }
 
 // What is to be told of the text that ended last: nothing, or a refusal that the file can't hold.
-#[derive(Drop)]
+#[derive(Clone, Copy)]
 pub enum News {
     Nothing,
     Told { number: u8, place: usize },
 }
 
 // How far a run has come, the place in the chunk at which it goes on, and what is to be told before it does.
-#[derive(Drop)]
+#[derive(Clone, Copy)]
 pub struct Step {
     pub progress: Progress,
     pub at: usize,

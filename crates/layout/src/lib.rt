@@ -1,4 +1,6 @@
 // Which codewords and symbols a block has, and how many symbols a frame has.
+#![tactic(auto)]
+
 ghost use Rattle.std.specs.Prelude.{◌≡◌, ◌+◌, ◌≤◌, ◌<◌};
 ghost use Rattle.layout.specs.Layout.{valid_sf, valid_cr, rows_of_later, first_block, block_of, data_nibbles, nibbles_of, later_blocks, symbols_of};
 ghost use Rattle.layout.specs.Ranges.{Valid};
@@ -10,7 +12,7 @@ pub const MOST_SYMBOLS: usize = 832;
 
 // The shape of a frame: spreading factor, low-rate flag, code rate, whether a checksum follows the payload, and the number of
 // nibbles in its header.
-#[derive(Drop)]
+#[derive(Clone, Copy)]
 pub struct Frame {
     pub sf: u8,
     pub low: bool,
@@ -21,7 +23,7 @@ pub struct Frame {
 
 // A block: its code rate, its rows (codewords), whether its symbols stand four apart, and the numbers of its first codeword
 // and its first symbol in the frame.
-#[derive(Drop)]
+#[derive(Clone, Copy)]
 pub struct Block {
     pub rate: u8,
     pub rows: usize,

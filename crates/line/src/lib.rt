@@ -1,4 +1,6 @@
 // An answer of read as the line that the reading program prints.
+#![tactic(auto)]
+
 ghost use Rattle.std.specs.Prelude.{◌≡◌, [], ◌∷◌, ◌++◌, ◌+◌, ◌*◌, ◌≤◌, ◌<◌, length};
 ghost use Rattle.bits.specs.Bit.{as_bit};
 ghost use Rattle.bits.specs.Tab.{placed};
@@ -11,7 +13,7 @@ use put::put;
 
 // What came of a text. Of a capture: what read said of it, or the refusal of a text that is none. Of a wish: that its frame was
 // made, or that it was refused.
-#[derive(Drop)]
+#[derive(Clone, Copy)]
 pub enum Outcome {
     Heard(Received),
     Made,
@@ -22,7 +24,7 @@ pub enum Outcome {
 pub const LINE: usize = 640;
 
 // The line that answers a text, in a lent buffer: its length, and what came of the text.
-#[derive(Drop)]
+#[derive(Clone, Copy)]
 pub struct Answer {
     pub length: usize,
     pub outcome: Outcome,

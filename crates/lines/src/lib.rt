@@ -1,4 +1,6 @@
 // The answers to an input, handed out while it comes in chunks of any size.
+#![tactic(auto)]
+
 ghost use Rattle.std.specs.Prelude.{◌≡◌, List, ℕ, ◌+◌, ◌≤◌, ◌<◌, eqb, length};
 ghost use Rattle.bits.specs.Bit.{as_bit};
 ghost use Rattle.line.specs.Outcome.{Answered};
@@ -11,7 +13,7 @@ use panel::Counts;
 
 // What was taken of the piece that is open: of a capture to be read, of a wish for a frame, of a capture whose hurt symbols are
 // asked, or of a capture that is only counted.
-#[derive(Drop)]
+#[derive(Clone, Copy)]
 pub enum Piece {
     Frame(capture::Scan),
     Wish(wish::Scan),
@@ -21,7 +23,7 @@ pub enum Piece {
 
 // How far a run has come: the open piece, whether it has a byte yet, and the counts of the pieces before it. The numbers of the
 // open piece stand in a lent list of 837.
-#[derive(Drop)]
+#[derive(Clone, Copy)]
 pub struct Progress {
     pub piece: Piece,
     pub begun: bool,
@@ -29,7 +31,7 @@ pub struct Progress {
 }
 
 // How far a run has come, the place in the chunk at which it goes on, and how many bytes of answers wait in the lent buffer.
-#[derive(Drop)]
+#[derive(Clone, Copy)]
 pub struct Step {
     pub progress: Progress,
     pub at: usize,
@@ -142,7 +144,7 @@ fn answer_behind(piece: Piece, numbers: &mut [u16], out: &mut [u8], used: usize)
 }
 
 // How far a run has come when a piece was answered, and how many bytes of answers wait now.
-#[derive(Drop)]
+#[derive(Clone, Copy)]
 pub struct Closed {
     pub progress: Progress,
     pub used: usize,

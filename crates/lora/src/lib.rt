@@ -1,4 +1,6 @@
 // The five operations offered: code, read, head, count, airtime.
+#![tactic(auto)]
+
 mod counting;
 mod opening;
 mod receiving;
@@ -14,7 +16,7 @@ pub use timing::airtime;
 
 // How the two sides know a frame's length, its code rate and whether a checksum follows the payload: from an explicit header that
 // is sent in front, or because it was agreed.
-#[derive(Drop)]
+#[derive(Clone, Copy)]
 pub enum Kind {
     Explicit {
         cr: u8,
@@ -28,7 +30,7 @@ pub enum Kind {
 }
 
 // What a frame is sent with: spreading factor, low-rate flag, and the rest by its kind.
-#[derive(Drop)]
+#[derive(Clone, Copy)]
 pub struct Settings {
     pub sf: u8,
     pub low: bool,
@@ -36,7 +38,7 @@ pub struct Settings {
 }
 
 // What a reader expects: a header, which says the rest, or a frame as it was agreed.
-#[derive(Drop)]
+#[derive(Clone, Copy)]
 pub enum Expected {
     Explicit,
     Agreed {
@@ -47,21 +49,21 @@ pub enum Expected {
 }
 
 // The answer of count and code.
-#[derive(Drop)]
+#[derive(Clone, Copy)]
 pub enum Counted {
     Symbols { count: usize },
     Refused { number: u8, place: usize },
 }
 
 // The answer of airtime.
-#[derive(Drop)]
+#[derive(Clone, Copy)]
 pub enum Lasting {
     Microseconds { time: u64 },
     Refused { number: u8, place: usize },
 }
 
 // The answer of head.
-#[derive(Drop)]
+#[derive(Clone, Copy)]
 pub enum Heading {
     Says(Header),
     Refused { number: u8, place: usize },
@@ -69,7 +71,7 @@ pub enum Heading {
 
 // What read says of a payload that it accepts: its length, the frame's code rate, whether a checksum followed it, the symbols
 // that the frame has, the codewords that were repaired, and how far the first symbol was off its mark, -2 to +1.
-#[derive(Drop)]
+#[derive(Clone, Copy)]
 pub struct Accepted {
     pub length: usize,
     pub cr: u8,
@@ -80,7 +82,7 @@ pub struct Accepted {
 }
 
 // The answer of read.
-#[derive(Drop)]
+#[derive(Clone, Copy)]
 pub enum Received {
     Payload(Accepted),
     Refused { number: u8, place: usize },

@@ -45,7 +45,7 @@ pub fn first_over(sf: u8, symbols: &[u16], from: usize, end: usize) -> usize
 }
 
 // How some checks end: passed, or refused.
-#[derive(Drop)]
+#[derive(Clone, Copy)]
 pub enum Entry {
     Passed,
     Refused { number: u8, place: usize },
@@ -87,7 +87,7 @@ fn said(v: Verdict) -> Heading
 }
 
 // What a header says, and among its codewords the repairs and how often each bit was flipped.
-#[derive(Drop)]
+#[derive(Clone, Copy)]
 pub struct Opened {
     pub heading: Heading,
     pub repairs: usize,

@@ -29,7 +29,7 @@ fn sum_holds(f: Frame, len: usize, payload: [u8; LONGEST], nibbles: &[u8; NIBBLE
 }
 
 // The payload as it is read, with the answer.
-#[derive(Drop)]
+#[derive(Clone, Copy)]
 struct Body {
     payload: [u8; LONGEST],
     answer: Received,

@@ -1,6 +1,8 @@
 // The five operations for C and Rust, of frames with a header; those of frames without one are in `agreed`, the day's file in
 // `day_file`, the tally in `tallies`. A flag is 0 for off, any other number for on. Each returns 0 for an acceptance, a refusal's
 // number with its place in answer[0], or 255 where `answer` has too few cells, and then nothing is written.
+#![tactic(auto)]
+
 ghost use Rattle.std.specs.Prelude.{◌≡◌, ◌≤◌, length};
 ghost use Rattle.bits.specs.Bit.{as_bit};
 ghost use Rattle.lora.specs.Airtime.{airtime_of};

@@ -1,5 +1,7 @@
 // Frames made from the shell: standard input is cut at each byte 10, and each piece is a wish for a frame, answered by the
 // line that lora_lines reads, in order. An empty last piece is none.
+#![tactic(auto)]
+
 use libc::STDOUT_FILENO;
 use system::Asked;
 

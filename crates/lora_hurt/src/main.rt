@@ -1,5 +1,7 @@
 // Which chirps of captured frames were hurt, many frames in one run: standard input is cut at each byte 10, and each piece is a
 // capture, as lora_lines takes it, answered by one line, in order. An empty last piece is none.
+#![tactic(auto)]
+
 use libc::STDOUT_FILENO;
 use system::Asked;
 

@@ -1,5 +1,7 @@
 // Captured frames, many in one run: standard input is cut at each byte 10, and each piece is a capture, of a frame with a header
 // or without one, answered by one line, in order. An empty last piece is none.
+#![tactic(auto)]
+
 use libc::STDOUT_FILENO;
 use system::Asked;
 

@@ -1,4 +1,6 @@
 // The reading program: one frame's text on standard input, over any number of lines, one answer line on standard output.
+#![tactic(auto)]
+
 ghost use Rattle.std.specs.Prelude.{◌≡◌, ◌≤◌, length};
 ghost use Rattle.system.specs.Calls.{Within, Printing};
 ghost use Rattle.text.specs.Scan.{Sane, state_of, line_at};
@@ -9,7 +11,7 @@ use system::{Asked, Got, Sent};
 use text::Scan;
 
 // What a read came to: more of the text, its end, or a failure with the system's number for it.
-#[derive(Drop)]
+#[derive(Clone, Copy)]
 enum Turn {
     More(Scan),
     Ended(Scan),

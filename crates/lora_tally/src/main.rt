@@ -1,5 +1,7 @@
 // What came of captured frames, many in one run: standard input is cut at each byte 10, and each piece is a capture, as lora_lines
 // takes it. No piece is answered by a line; at the end the panel says how many were heard, accepted and refused.
+#![tactic(auto)]
+
 use libc::STDOUT_FILENO;
 use system::Asked;
 

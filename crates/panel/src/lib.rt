@@ -1,5 +1,7 @@
 // What came of a run's texts, counted, and shown as a closing line or as a panel. What read said of captures goes into a tally;
 // what the tally refuses, and what was not read, is counted beside it.
+#![tactic(auto)]
+
 ghost use Rattle.std.specs.Prelude.{◌≡◌, ◌+◌, ◌≤◌, length};
 ghost use Rattle.bits.specs.Sum.{sum};
 ghost use Rattle.put.specs.Put.{Put};
@@ -14,7 +16,7 @@ use tally::{Answer, Tally};
 
 // What came of the texts of a run: how many were answered; what read said of the captures; how many frames were made; how many
 // texts were refused with no reading, bad ones and wishes; for how many outcomes the tally had no room.
-#[derive(Drop)]
+#[derive(Clone, Copy)]
 pub struct Counts {
     pub texts: usize,
     pub tally: Tally,

@@ -1,4 +1,6 @@
 // A byte put into a lent buffer, and what a writer has written by such steps.
+#![tactic(auto)]
+
 ghost use Rattle.std.specs.Prelude.{[], ◌∷◌, ◌<◌, length};
 ghost use Rattle.put.specs.Put.{Put};
 

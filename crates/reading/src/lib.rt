@@ -1,4 +1,6 @@
 // From received symbols to a frame's nibbles, block by block, and from nibbles to the payload.
+#![tactic(auto)]
+
 ghost use Rattle.std.specs.Prelude.{◌≡◌, ℕ, ◌+◌, ◌≤◌, ◌<◌, min, length, get_or};
 ghost use Rattle.bits.specs.Tab.{over, over_at, blank};
 ghost use Rattle.codeword.specs.Ranges.{Rate};
@@ -15,14 +17,14 @@ use layout::{Block, Frame, LONGEST, MOST_SYMBOLS};
 pub const NIBBLES: usize = 519;
 
 // How far a run of codewords was read, and the repairs on the way.
-#[derive(Drop)]
+#[derive(Clone, Copy)]
 pub struct Progress {
     pub end: usize,
     pub repairs: usize,
 }
 
 // The same of rows of a block's grid, and how often each bit of its rows was flipped so far, in a byte each.
-#[derive(Drop)]
+#[derive(Clone, Copy)]
 pub struct Rows {
     pub end: usize,
     pub repairs: usize,

@@ -1,4 +1,6 @@
 // The numbers of the refusals, handed back instead of a result; include/lora.h has the same names.
+#![tactic(auto)]
+
 pub const BAD_SF: u8 = 1;
 
 pub const BAD_CR: u8 = 2;

@@ -1,4 +1,6 @@
 // What is shown of a day's file: a line for each entry.
+#![tactic(auto)]
+
 ghost use Rattle.std.specs.Prelude.{◌≡◌, [], ◌∷◌, ◌++◌, ◌+◌, ◌-◌, ◌≤◌, length};
 ghost use Rattle.line.specs.Line.{field};
 ghost use Rattle.put.specs.Put.{Put};

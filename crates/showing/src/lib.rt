@@ -1,5 +1,7 @@
 // The listing of a day's file on standard output: a line for each entry, by the walker, and the last line; or the one line of a
 // refusal. Nothing of a file that is refused is shown.
+#![tactic(auto)]
+
 ghost use Rattle.std.specs.Prelude.{◌≡◌, true, ◌+◌, ◌≤◌, length};
 ghost use Rattle.put.specs.Put.{Put};
 ghost use Rattle.day.specs.Day.{kind1, judged};
@@ -22,7 +24,7 @@ pub const FILE: usize = 1 + 1 + 2 * 255 + 1 + 261 * 255 + 1 + 4 * 255 + 1;
 const MOST: usize = 255 + 255 + 255 + 1;
 
 // What became of a listing so far: how many whole lines were written, and how the last write went.
-#[derive(Drop)]
+#[derive(Clone, Copy)]
 pub struct Shown {
     pub lines: usize,
     pub sent: Sent,
@@ -30,7 +32,7 @@ pub struct Shown {
 
 // Entries whose lines stand at the front of a buffer: the place behind them, how many bytes their lines have, and whether the
 // walk is over.
-#[derive(Drop)]
+#[derive(Clone, Copy)]
 struct Part {
     place: Place,
     used: usize,
@@ -38,7 +40,7 @@ struct Part {
 }
 
 // The same when the lines were written out.
-#[derive(Drop)]
+#[derive(Clone, Copy)]
 struct Turn {
     place: Place,
     over: bool,

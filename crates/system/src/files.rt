@@ -6,28 +6,28 @@ ghost use Rattle.system.specs.Calls.{Behind, Held};
 use crate::{Got, error, put, read_from};
 
 // How a call went: as it should, or not, with the system's number for it.
-#[derive(Drop)]
+#[derive(Clone, Copy)]
 pub enum Done {
     Well,
     Failed(usize),
 }
 
 // A file that was opened, by the number that the system gave it; or the system's number for why it was not.
-#[derive(Drop)]
+#[derive(Clone, Copy)]
 pub enum Opened {
     File(i32),
     Failed(usize),
 }
 
 // So many bytes of a file, at the front of a buffer: all that it has, unless they fill the buffer. Or why they can't be read.
-#[derive(Drop)]
+#[derive(Clone, Copy)]
 pub enum Contents {
     Bytes(usize),
     Failed(usize),
 }
 
 // A new file, and how many bytes of the lent buffer are its name.
-#[derive(Drop)]
+#[derive(Clone, Copy)]
 pub struct Temporary {
     pub opened: Opened,
     pub name: usize,

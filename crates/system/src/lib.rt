@@ -1,5 +1,7 @@
 // The system's calls that the programs share: reads and writes, the wait between two tries, files by name, the arguments.
 // What a call reads or writes no contract can say; what is counted and handed on, these contracts do.
+#![tactic(auto)]
+
 ghost use Rattle.std.specs.Prelude.{◌≤◌, length};
 ghost use Rattle.system.specs.Calls.{Within, Handed, Named};
 
@@ -8,7 +10,7 @@ use libc::{EAGAIN, EINTR, STDERR_FILENO, STDIN_FILENO};
 pub mod files;
 
 // What a read gave: so many bytes at the buffer's front, the input's end, or a failure with the system's number for it.
-#[derive(Drop)]
+#[derive(Clone, Copy)]
 pub enum Got {
     Bytes(usize),
     End,
@@ -16,7 +18,7 @@ pub enum Got {
 }
 
 // What a write did: how many bytes it got rid of, whether these were all, and the system's number for what went wrong.
-#[derive(Drop)]
+#[derive(Clone, Copy)]
 pub struct Sent {
     pub bytes: usize,
     pub whole: bool,
@@ -24,7 +26,7 @@ pub struct Sent {
 }
 
 // What the program was asked by its arguments: none, --help alone, or something else.
-#[derive(Drop)]
+#[derive(Clone, Copy)]
 pub enum Asked {
     Work,
     Help,
@@ -32,7 +34,7 @@ pub enum Asked {
 }
 
 // The same of a program that also takes a file's name alone: so many bytes of it stand at the front of a lent buffer.
-#[derive(Drop)]
+#[derive(Clone, Copy)]
 pub enum Request {
     Plain,
     Name(usize),
@@ -101,7 +103,7 @@ pub fn read_some(buffer: &mut [u8]) -> Got
 }
 
 // How far a write has come: the bytes it got rid of, whether it is over, and the system's number for what went wrong.
-#[derive(Drop)]
+#[derive(Clone, Copy)]
 struct Try {
     done: usize,
     over: bool,

@@ -1,5 +1,7 @@
 // A tally of what read answered. Hearing an outcome is adding the tally of that one outcome, taking in is adding another
 // station's: one adder, one check of 17.
+#![tactic(auto)]
+
 ghost use Rattle.std.specs.Prelude.{◌≡◌, ◌+◌, ◌≤◌, leb};
 ghost use Rattle.bits.specs.Bit.{as_bit};
 ghost use Rattle.bits.specs.Search.{first};
@@ -11,7 +13,7 @@ use lora::Received;
 
 // Frames heard, accepted with no repairs, accepted with some, and refused under each number, which is the index: read gives
 // 1 to 7 and 9 to 12, so cells 0 and 8 stay 0 after a clearing.
-#[derive(Drop)]
+#[derive(Clone, Copy)]
 pub struct Tally {
     pub heard: u32,
     pub clean: u32,
@@ -20,14 +22,14 @@ pub struct Tally {
 }
 
 // The answer of the three calls.
-#[derive(Drop)]
+#[derive(Clone, Copy)]
 pub enum Answer {
     Done,
     Refused { number: u8, place: usize },
 }
 
 // A tally after a call, with the call's answer.
-#[derive(Drop)]
+#[derive(Clone, Copy)]
 pub struct Noted {
     pub tally: Tally,
     pub answer: Answer,

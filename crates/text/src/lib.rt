@@ -1,4 +1,6 @@
 // The reading program's text, taken in pieces, and its answer line.
+#![tactic(auto)]
+
 ghost use Rattle.std.specs.Prelude.{◌≡◌, false, ◌+◌, ◌≤◌, length};
 ghost use Rattle.bits.specs.Tab.{placed};
 ghost use Rattle.line.specs.Line.{line_of};
@@ -19,7 +21,7 @@ const MOST: usize = 834;
 pub const NUMBERS: usize = 837;
 
 // How far a text was taken; the numbers before stand in a lent list of 837.
-#[derive(Drop)]
+#[derive(Clone, Copy)]
 pub struct Scan {
     pub refused: bool,
     pub digits: usize,

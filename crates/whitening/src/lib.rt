@@ -1,4 +1,6 @@
 // Whitening: payload bytes are XORed with the whitening bytes, and XORed again they are themselves.
+#![tactic(auto)]
+
 ghost use Rattle.std.specs.Prelude.{◌≡◌, ◌≤◌, length, get_or};
 ghost use Rattle.bits.specs.Tab.{over};
 ghost use Rattle.whitening.specs.Whitening.{whitened};

@@ -1,4 +1,6 @@
 // The coding program's text, taken in pieces, and its answer line.
+#![tactic(auto)]
+
 ghost use Rattle.std.specs.Prelude.{◌≡◌, [], ◌+◌, ◌*◌, ◌≤◌, length};
 ghost use Rattle.bits.specs.Bit.{as_bit};
 ghost use Rattle.bits.specs.Tab.{tab, over, blank};
@@ -19,7 +21,7 @@ pub const LINE: usize = 17600;
 
 // How far the payload's word was taken: not begun, a hyphen, whole bytes, a byte's upper digit behind whole bytes,
 // ended, or no payload.
-#[derive(Drop)]
+#[derive(Clone, Copy)]
 pub enum Word {
     Before,
     Hyphen,
@@ -31,7 +33,7 @@ pub enum Word {
 
 // How far a wish was taken; in a lent list of 837 stand the numbers in front of the payload, five at most, and from the sixth
 // cell on the payload's bytes.
-#[derive(Drop)]
+#[derive(Clone, Copy)]
 pub struct Scan {
     pub head: capture::Scan,
     pub word: Word,

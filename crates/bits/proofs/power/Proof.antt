@@ -8,10 +8,10 @@ use borrow.Author.Rules.{rules}
 use Rattle.bits.proofs.power.Statement.{statement}
 use Rattle.bits.proofs.power.Tie as tie
 
-cast-result : tie.Need-overflow-cast-result
+cast-result : tie.Need-overflow_cast-result
 cast-result c = search rules
 
-shl-result : tie.Need-overflow-shl-result
+shl-result : tie.Need-overflow_shl-result
 shl-result c = search rules
 
 returns : tie.Need-returns
@@ -20,5 +20,5 @@ returns c =
     let e : (1 * 2 ^ k) % 2 ^ 16 ≡ 2 ^ k = shl_exact 1 k 16 (omega arith) (omega arith) ∙ one-mul _ in
     (e, rw e (pow_pos k))
 
-pub power-spec : {M : Type 1} → statement M
-power-spec = tie.close (tie.spec cast-result shl-result returns)
+pub power_spec : {M : Type 1} → statement M
+power_spec = tie.close (tie.spec cast-result shl-result returns)

@@ -12,5 +12,5 @@ returns c = (sym (mod-eq_of_lt c.if1.true), search rules)
 returns-2 : tie.Need-returns-2
 returns-2 c = (sym (once _ _ (search rules) (search rules)), search rules)
 
-pub around-spec : {M : Type 1} → statement M
-around-spec = tie.close (tie.spec returns returns-2)
+pub around_spec : {M : Type 1} → statement M
+around_spec = tie.close (tie.spec returns returns-2)

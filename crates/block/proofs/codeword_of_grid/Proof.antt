@@ -4,7 +4,7 @@ use borrow.Author.Rules.{rules}
 use Rattle.block.proofs.codeword_of_grid.Statement.{statement}
 use Rattle.block.proofs.codeword_of_grid.Tie as tie
 
-mul-codeword-of-row : tie.Need-overflow-mul-codeword-of-row
+mul-codeword-of-row : tie.Need-overflow_mul-codeword-of-row
 mul-codeword-of-row c = search rules
 
 index-1-codeword-of-row : tie.Need-bounds-1-codeword-of-row
@@ -19,8 +19,8 @@ low-bits-requires c κs = search rules
 returns : tie.Need-returns
 returns c = codeword-cut _ _ _ (search rules) c.before.codeword-of-row.ensures c.low-bits.ensures
 
-pub codeword-of-grid-spec : {M : Type 1} → statement M
-codeword-of-grid-spec =
+pub codeword_of_grid_spec : {M : Type 1} → statement M
+codeword_of_grid_spec =
     tie.close
     (tie.spec
     mul-codeword-of-row

@@ -35,18 +35,18 @@ element-copy-out-four-8 c = search rules
 four-requires-2 : tie.Need-four-requires-2
 four-requires-2 c κs = search rules
 
-mul-result : tie.Need-overflow-mul-result
+mul-result : tie.Need-overflow_mul-result
 mul-result c = search rules
 
-add-result : tie.Need-overflow-add-result
+add-result : tie.Need-overflow_add-result
 add-result c = search rules
 
 returns : tie.Need-returns
 unfolding number
 returns c = omega (arith, c.before.before.before.before.before.four.ensures, c.four2.ensures)
 
-pub codeword-of-row-spec : {M : Type 1} → statement M
-codeword-of-row-spec =
+pub codeword_of_row_spec : {M : Type 1} → statement M
+codeword_of_row_spec =
     tie.close
     (tie.spec
     element-copy-out-four

@@ -18,10 +18,10 @@ loop-holds : tie.Need-loop-init invariant-loop decreases-loop
 unfolding blank
 loop-holds c = (search rules, columns-none _ _)
 
-sub-i : tie.Need-overflow-sub-i invariant-loop decreases-loop
+sub-i : tie.Need-overflow_sub-i invariant-loop decreases-loop
 sub-i c = search rules
 
-mul-with-row : tie.Need-overflow-mul-with-row invariant-loop decreases-loop
+mul-with-row : tie.Need-overflow_mul-with-row invariant-loop decreases-loop
 mul-with-row c = search rules
 
 index-1-with-row : tie.Need-bounds-1-with-row invariant-loop decreases-loop
@@ -46,8 +46,8 @@ loop-again c =
 returns : tie.Need-returns invariant-loop decreases-loop
 returns c = c.before.loop.invariant.1 ∙ columns-all _ _ _ (omega arith)
 
-pub columns-of-grid-spec : {M : Type 1} → statement M
-columns-of-grid-spec =
+pub columns_of_grid_spec : {M : Type 1} → statement M
+columns_of_grid_spec =
     tie.close
     (tie.spec
     invariant-loop

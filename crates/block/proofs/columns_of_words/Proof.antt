@@ -22,7 +22,7 @@ loop-holds c = (search rules, filled_none _ _)
 around-requires : tie.Need-around-requires invariant-loop decreases-loop
 around-requires c κs = search rules
 
-mul-turned-up : tie.Need-overflow-mul-turned-up invariant-loop decreases-loop
+mul-turned-up : tie.Need-overflow_mul-turned-up invariant-loop decreases-loop
 mul-turned-up c = search rules
 
 array-read-turned-up : tie.Need-array-read-turned-up invariant-loop decreases-loop
@@ -31,13 +31,13 @@ array-read-turned-up c = search rules
 turned-up-requires : tie.Need-turned-up-requires invariant-loop decreases-loop
 turned-up-requires c κs = search rules
 
-mul-plain : tie.Need-overflow-mul-plain invariant-loop decreases-loop
+mul-plain : tie.Need-overflow_mul-plain invariant-loop decreases-loop
 mul-plain c = search rules
 
 array-write-plain : tie.Need-array-write-plain invariant-loop decreases-loop
 array-write-plain c = search rules
 
-add-j : tie.Need-overflow-add-j invariant-loop decreases-loop
+add-j : tie.Need-overflow_add-j invariant-loop decreases-loop
 add-j c = search rules
 
 loop-less : tie.Need-loop-smaller invariant-loop decreases-loop
@@ -53,8 +53,8 @@ returns : tie.Need-returns invariant-loop decreases-loop
 unfolding column_of_words
 returns c = filled-end c.before.loop.invariant.1 (omega arith)
 
-pub columns-of-words-spec : {M : Type 1} → statement M
-columns-of-words-spec =
+pub columns_of_words_spec : {M : Type 1} → statement M
+columns_of_words_spec =
     tie.close
     (tie.spec
     invariant-loop

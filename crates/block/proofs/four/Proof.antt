@@ -11,47 +11,47 @@ use Rattle.block.proofs.four.Tie as tie
 small : (c : tie.Start) → (as_bit c.args.a ≤ 1) × (as_bit c.args.b ≤ 1) × (as_bit c.args.c ≤ 1) × (as_bit c.args.d ≤ 1)
 small c = (as_bit-le c.args.a, as_bit-le c.args.b, as_bit-le c.args.c, as_bit-le c.args.d)
 
-cast-cells : tie.Need-overflow-cast-cells
+cast-cells : tie.Need-overflow_cast-cells
 cast-cells c = search rules
 
-cast-cells-2 : tie.Need-overflow-cast-cells-2
+cast-cells-2 : tie.Need-overflow_cast-cells-2
 cast-cells-2 c = search rules
 
-mul-cells : tie.Need-overflow-mul-cells
+mul-cells : tie.Need-overflow_mul-cells
 mul-cells c = omega (arith, small c)
 
-add-cells : tie.Need-overflow-add-cells
+add-cells : tie.Need-overflow_add-cells
 add-cells c = omega (arith, small c)
 
-cast-cells-3 : tie.Need-overflow-cast-cells-3
+cast-cells-3 : tie.Need-overflow_cast-cells-3
 cast-cells-3 c = search rules
 
-mul-cells-2 : tie.Need-overflow-mul-cells-2
+mul-cells-2 : tie.Need-overflow_mul-cells-2
 mul-cells-2 c = omega (arith, small c)
 
-add-cells-2 : tie.Need-overflow-add-cells-2
+add-cells-2 : tie.Need-overflow_add-cells-2
 add-cells-2 c = omega (arith, small c)
 
-cast-cells-4 : tie.Need-overflow-cast-cells-4
+cast-cells-4 : tie.Need-overflow_cast-cells-4
 cast-cells-4 c = search rules
 
-mul-cells-3 : tie.Need-overflow-mul-cells-3
+mul-cells-3 : tie.Need-overflow_mul-cells-3
 mul-cells-3 c = omega (arith, small c)
 
-add-cells-3 : tie.Need-overflow-add-cells-3
+add-cells-3 : tie.Need-overflow_add-cells-3
 add-cells-3 c = omega (arith, small c)
 
-mul-result : tie.Need-overflow-mul-result
+mul-result : tie.Need-overflow_mul-result
 mul-result c = omega (arith, small c)
 
-cast-result : tie.Need-overflow-cast-result
+cast-result : tie.Need-overflow_cast-result
 cast-result c = search rules
 
 returns : tie.Need-returns
 returns c = (gathered c.args.a c.args.b c.args.c c.args.d, search rules)
 
-pub four-spec : {M : Type 1} → statement M
-four-spec =
+pub four_spec : {M : Type 1} → statement M
+four_spec =
     tie.close
     (tie.spec
     cast-cells

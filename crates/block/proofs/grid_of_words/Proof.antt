@@ -26,7 +26,7 @@ loop-holds : tie.Need-loop-init invariant-loop decreases-loop
 unfolding blank
 loop-holds c = (search rules, filled_none _ _)
 
-mul-set-row : tie.Need-overflow-mul-set-row invariant-loop decreases-loop
+mul-set-row : tie.Need-overflow_mul-set-row invariant-loop decreases-loop
 mul-set-row c = search rules
 
 index-1-set-row : tie.Need-bounds-1-set-row invariant-loop decreases-loop
@@ -37,7 +37,7 @@ set-row-requires c κs =
     let l = c.before.before.before.loop in
     (search rules, ap length (filled-rest [] l.invariant.1 ∙ get_or-blank 12 l.i (blank 8 false) [] (omega arith)) ∙ length-blank 8 false)
 
-add-i : tie.Need-overflow-add-i invariant-loop decreases-loop
+add-i : tie.Need-overflow_add-i invariant-loop decreases-loop
 add-i c = search rules
 
 loop-less : tie.Need-loop-smaller invariant-loop decreases-loop
@@ -51,8 +51,8 @@ returns : tie.Need-returns invariant-loop decreases-loop
 returns c =
     filled-end c.before.loop.invariant.1 (omega arith) ∙ rows-of-columns _ _ (omega arith) c.before.before.columns-of-words.ensures
 
-pub grid-of-words-spec : {M : Type 1} → statement M
-grid-of-words-spec =
+pub grid_of_words_spec : {M : Type 1} → statement M
+grid_of_words_spec =
     tie.close
     (tie.spec
     invariant-loop

@@ -11,11 +11,11 @@ power-requires c κs = search rules
 rem-result : tie.Need-nonzero-rem-result
 rem-result c = search rules
 
-cast-result : tie.Need-overflow-cast-result
+cast-result : tie.Need-overflow_cast-result
 cast-result c = omega (arith, mod-le c.before.args.codeword c.power.result)
 
 returns : tie.Need-returns
 returns c = rw c.power.ensures.0
 
-pub low-bits-spec : {M : Type 1} → statement M
-low-bits-spec = tie.close (tie.spec power-requires rem-result cast-result returns)
+pub low_bits_spec : {M : Type 1} → statement M
+low_bits_spec = tie.close (tie.spec power-requires rem-result cast-result returns)

@@ -4,7 +4,7 @@ use borrow.Author.Rules.{rules}
 use Rattle.block.proofs.number_of_value.Statement.{statement}
 use Rattle.block.proofs.number_of_value.Tie as tie
 
-mul-result : tie.Need-overflow-mul-result
+mul-result : tie.Need-overflow_mul-result
 mul-result c = search rules
 
 returns : tie.Need-returns
@@ -15,5 +15,5 @@ returns-2 : tie.Need-returns-2
 unfolding number_of_value
 returns-2 c = rw c.if1.false
 
-pub number-of-value-spec : {M : Type 1} → statement M
-number-of-value-spec = tie.close (tie.spec mul-result returns returns-2)
+pub number_of_value_spec : {M : Type 1} → statement M
+number_of_value_spec = tie.close (tie.spec mul-result returns returns-2)

@@ -22,22 +22,22 @@ decreases-loop plain i cells₀ j₀ cells j = 8 - j
 loop-holds : tie.Need-loop-init invariant-loop decreases-loop
 loop-holds c = (search rules, filled_none _ _)
 
-mul-cells : tie.Need-overflow-mul-cells invariant-loop decreases-loop
+mul-cells : tie.Need-overflow_mul-cells invariant-loop decreases-loop
 mul-cells c = search rules
 
 element-copy-out-cells : tie.Need-element-copy-out-cells invariant-loop decreases-loop
 element-copy-out-cells c = search rules
 
-cast-cells : tie.Need-overflow-cast-cells invariant-loop decreases-loop
+cast-cells : tie.Need-overflow_cast-cells invariant-loop decreases-loop
 cast-cells c = search rules
 
-shr-cells : tie.Need-overflow-shr-cells invariant-loop decreases-loop
+shr-cells : tie.Need-overflow_shr-cells invariant-loop decreases-loop
 shr-cells c = search rules
 
 element-write-cells : tie.Need-element-write-cells invariant-loop decreases-loop
 element-write-cells c = search rules
 
-add-j : tie.Need-overflow-add-j invariant-loop decreases-loop
+add-j : tie.Need-overflow_add-j invariant-loop decreases-loop
 add-j c = search rules
 
 loop-less : tie.Need-loop-smaller invariant-loop decreases-loop
@@ -53,8 +53,8 @@ returns c =
     let l = c.before.loop in
     filled-end l.invariant.1 (omega arith) ∙ over-all 8 _ c.before.before.args.cells.now (omega arith) ∙ sym (over-all 8 _ (blank 8 false) (omega (arith, length-blank 8 false)))
 
-pub set-row-spec : {M : Type 1} → statement M
-set-row-spec =
+pub set_row_spec : {M : Type 1} → statement M
+set_row_spec =
     tie.close
     (tie.spec
     invariant-loop

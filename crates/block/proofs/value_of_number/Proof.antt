@@ -7,7 +7,7 @@ use borrow.Author.Rules.{rules}
 use Rattle.block.proofs.value_of_number.Statement.{statement}
 use Rattle.block.proofs.value_of_number.Tie as tie
 
-add-result : tie.Need-overflow-add-result
+add-result : tie.Need-overflow_add-result
 add-result c = search rules
 
 power-requires : tie.Need-power-requires
@@ -27,5 +27,5 @@ returns-2 : tie.Need-returns-2
 unfolding value_of_number
 returns-2 c = rw c.if1.false
 
-pub value-of-number-spec : {M : Type 1} → statement M
-value-of-number-spec = tie.close (tie.spec add-result power-requires rem-result returns returns-2)
+pub value_of_number_spec : {M : Type 1} → statement M
+value_of_number_spec = tie.close (tie.spec add-result power-requires rem-result returns returns-2)

@@ -8,5 +8,5 @@ returns : tie.Need-returns
 unfolding folded
 returns c = value-folded c.args.n c.args.w (omega arith) c.requires.1
 
-pub value-of-word-spec : {M : Type 1} → statement M
-value-of-word-spec = tie.close (tie.spec returns)
+pub value_of_word_spec : {M : Type 1} → statement M
+value_of_word_spec = tie.close (tie.spec returns)

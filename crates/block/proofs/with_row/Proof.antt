@@ -23,34 +23,34 @@ loop-holds : tie.Need-loop-init invariant-loop decreases-loop
 unfolding blank
 loop-holds c = (search rules, filled_none _ _)
 
-mul-longer : tie.Need-overflow-mul-longer invariant-loop decreases-loop
+mul-longer : tie.Need-overflow_mul-longer invariant-loop decreases-loop
 mul-longer c = search rules
 
 array-read-longer : tie.Need-array-read-longer invariant-loop decreases-loop
 array-read-longer c = search rules
 
-mul-longer-2 : tie.Need-overflow-mul-longer-2 invariant-loop decreases-loop
+mul-longer-2 : tie.Need-overflow_mul-longer-2 invariant-loop decreases-loop
 mul-longer-2 c = omega (arith, c.before.before.requires c.before.loop.j (omega arith))
 
 element-copy-out-longer : tie.Need-element-copy-out-longer invariant-loop decreases-loop
 element-copy-out-longer c = search rules
 
-cast-longer : tie.Need-overflow-cast-longer invariant-loop decreases-loop
+cast-longer : tie.Need-overflow_cast-longer invariant-loop decreases-loop
 cast-longer c = search rules
 
-add-longer : tie.Need-overflow-add-longer invariant-loop decreases-loop
+add-longer : tie.Need-overflow_add-longer invariant-loop decreases-loop
 add-longer c =
     let a = c.before.before.before in
     let j = c.before.before.loop.j in
     omega (arith, a.requires j (omega arith), as_bit-le (get_or a.args.row.now j false))
 
-mul-longer-3 : tie.Need-overflow-mul-longer-3 invariant-loop decreases-loop
+mul-longer-3 : tie.Need-overflow_mul-longer-3 invariant-loop decreases-loop
 mul-longer-3 c = search rules
 
 array-write-longer : tie.Need-array-write-longer invariant-loop decreases-loop
 array-write-longer c = search rules
 
-add-j : tie.Need-overflow-add-j invariant-loop decreases-loop
+add-j : tie.Need-overflow_add-j invariant-loop decreases-loop
 add-j c = search rules
 
 loop-less : tie.Need-loop-smaller invariant-loop decreases-loop
@@ -64,8 +64,8 @@ returns : tie.Need-returns invariant-loop decreases-loop
 unfolding longer
 returns c = filled-end c.before.loop.invariant.1 (omega arith)
 
-pub with-row-spec : {M : Type 1} → statement M
-with-row-spec =
+pub with_row_spec : {M : Type 1} → statement M
+with_row_spec =
     tie.close
     (tie.spec
     invariant-loop

@@ -14,5 +14,5 @@ returns : tie.Need-returns
 unfolding word_of_number
 returns c = cc
 
-pub word-of-number-spec : {M : Type 1} → statement M
-word-of-number-spec = tie.close (tie.spec value-of-number-requires word-of-value-requires returns)
+pub word_of_number_spec : {M : Type 1} → statement M
+word_of_number_spec = tie.close (tie.spec value-of-number-requires word-of-value-requires returns)

@@ -8,5 +8,5 @@ returns : tie.Need-returns
 unfolding word_of_value
 returns c = search rules
 
-pub word-of-value-spec : {M : Type 1} → statement M
-word-of-value-spec = tie.close (tie.spec returns)
+pub word_of_value_spec : {M : Type 1} → statement M
+word_of_value_spec = tie.close (tie.spec returns)

@@ -26,7 +26,7 @@ loop-holds c = (search rules, filled_none _ _)
 around-requires : tie.Need-around-requires invariant-loop decreases-loop
 around-requires c κs = search rules
 
-mul-turned-down : tie.Need-overflow-mul-turned-down invariant-loop decreases-loop
+mul-turned-down : tie.Need-overflow_mul-turned-down invariant-loop decreases-loop
 mul-turned-down c = search rules
 
 array-read-turned-down : tie.Need-array-read-turned-down invariant-loop decreases-loop
@@ -37,13 +37,13 @@ turned-down-requires c κs =
     let plain = c.before.before.before.columns-of-grid.ensures in
     (search rules, search rules, plain-lt _ _ _ (omega arith) plain)
 
-mul_words : tie.Need-overflow-mul-words invariant-loop decreases-loop
+mul_words : tie.Need-overflow_mul-words invariant-loop decreases-loop
 mul_words c = search rules
 
 array-write-words : tie.Need-array-write-words invariant-loop decreases-loop
 array-write-words c = search rules
 
-add-j : tie.Need-overflow-add-j invariant-loop decreases-loop
+add-j : tie.Need-overflow_add-j invariant-loop decreases-loop
 add-j c = search rules
 
 loop-less : tie.Need-loop-smaller invariant-loop decreases-loop
@@ -59,8 +59,8 @@ returns : tie.Need-returns invariant-loop decreases-loop
 returns c =
     filled-end c.before.loop.invariant.1 (omega arith) ∙ words-of-columns _ _ _ (omega arith) (omega arith) c.before.before.columns-of-grid.ensures
 
-pub words-of-grid-spec : {M : Type 1} → statement M
-words-of-grid-spec =
+pub words_of_grid_spec : {M : Type 1} → statement M
+words_of_grid_spec =
     tie.close
     (tie.spec
     invariant-loop

@@ -38,8 +38,8 @@ returns-3 c =
     let length = cr.before.before in
     rw (c.call_from.ensures, cr.narrow.ensures, length.wide16.ensures) (agreed-makes _ (search rules) length.before.before.if2.false)
 
-pub agreed-call-spec : {M : Type 1} → statement M
-agreed-call-spec =
+pub agreed_call_spec : {M : Type 1} → statement M
+agreed_call_spec =
     tie.close
     (tie.spec
     returns

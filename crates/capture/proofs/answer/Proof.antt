@@ -37,8 +37,8 @@ returns c =
     let is = heard-line read.receive.ensures in
     rw (← done.finish.ensures.is, ← is.1, ← is.2) c.before.before.answer-with.ensures
 
-pub answer-spec : {M : Type 1} → statement M
-answer-spec =
+pub answer_spec : {M : Type 1} → statement M
+answer_spec =
     tie.close
     (tie.spec
     finish-requires

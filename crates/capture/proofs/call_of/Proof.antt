@@ -28,8 +28,8 @@ call-from-requires c κs = search rules
 returns-3 : tie.Need-returns-3
 returns-3 c = let test = c.before.before in plain_makes _ _ test.before.if1.false test.if2.false c.call_from.ensures
 
-pub call-of-spec : {M : Type 1} → statement M
-call-of-spec =
+pub call_of_spec : {M : Type 1} → statement M
+call_of_spec =
     tie.close
     (tie.spec
     returns

@@ -8,7 +8,7 @@ use Rattle.capture.proofs.feed.Tie as tie
 take-front-requires : tie.Need-take-front-requires
 take-front-requires c κs = search rules
 
-sub-feed : tie.Need-overflow-sub-feed
+sub-feed : tie.Need-overflow_sub-feed
 sub-feed c = search rules
 
 part-feed-start : tie.Need-slice-bounds-feed-start
@@ -29,8 +29,8 @@ returns c =
     let front = fed.before.before.before.before.before.before.before in
     holds-rest _ front.before.before.before.before.args.piece.now front.take-front.ensures fed.feed.ensures
 
-pub feed-spec : {M : Type 1} → statement M
-feed-spec =
+pub feed_spec : {M : Type 1} → statement M
+feed_spec =
     tie.close
     (tie.spec
     take-front-requires

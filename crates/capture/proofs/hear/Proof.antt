@@ -29,8 +29,8 @@ returns c =
     let done = read.before.before.before.before.before.before in
     rw (← done.finish.ensures.is) (heard-line read.receive.ensures).2
 
-pub hear-spec : {M : Type 1} → statement M
-hear-spec =
+pub hear_spec : {M : Type 1} → statement M
+hear_spec =
     tie.close
     (tie.spec
     finish-requires

@@ -21,5 +21,5 @@ returns-4 c =
     let bad = c.before.before.before in
     rw (bad.before.if1.false, bad.if2.false, eq-eqb _ _ c.before.if3.false)
 
-pub is-fresh-spec : {M : Type 1} → statement M
-is-fresh-spec = tie.close (tie.spec returns returns-2 returns-3 returns-4)
+pub is_fresh_spec : {M : Type 1} → statement M
+is_fresh_spec = tie.close (tie.spec returns returns-2 returns-3 returns-4)

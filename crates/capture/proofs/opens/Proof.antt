@@ -14,5 +14,5 @@ is-fresh-requires c κs = search rules
 returns-2 : tie.Need-returns-2
 returns-2 c = rw (eq-eqb _ _ c.before.if1.false) c.is-fresh.ensures
 
-pub opens-spec : {M : Type 1} → statement M
-opens-spec = tie.close (tie.spec returns is-fresh-requires returns-2)
+pub opens_spec : {M : Type 1} → statement M
+opens_spec = tie.close (tie.spec returns is-fresh-requires returns-2)

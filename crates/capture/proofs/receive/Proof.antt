@@ -23,10 +23,10 @@ enum_told c = search rules
 enum-known-call : tie.Need-enum-known-call
 enum-known-call c = search rules
 
-mul-read : tie.Need-overflow-mul-read
+mul-read : tie.Need-overflow_mul-read
 mul-read c = let h = within c.before in search rules
 
-sub_read : tie.Need-overflow-sub-read
+sub_read : tie.Need-overflow_sub-read
 sub_read c = within c.before
 
 part-read-start : tie.Need-slice-bounds-read-start
@@ -53,8 +53,8 @@ returns-2 c =
     let call = read.before.before.before.before.before in
     made-heard (rw call.call.given.1 at call.before.before.call-of.ensures) (rw (← drop-take _ _ _) at read.read.ensures)
 
-pub receive-spec : {M : Type 1} → statement M
-receive-spec =
+pub receive_spec : {M : Type 1} → statement M
+receive_spec =
     tie.close
     (tie.spec
     call-of-requires

@@ -31,7 +31,7 @@ returns-2 c =
     let start = test.before.before.before.before in
     holds_text _ _ start.args.b start.requires (sym test.before.opens.ensures ∙ test.if1.false) c.before.before.take-byte.ensures
 
-pub take-byte-spec : {M : Type 1} → statement M
-take-byte-spec =
+pub take_byte_spec : {M : Type 1} → statement M
+take_byte_spec =
     tie.close
     (tie.spec opens-requires begin-requires returns take-byte-requires same_length returns-2)

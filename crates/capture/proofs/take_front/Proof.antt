@@ -39,7 +39,7 @@ shared-slice-read-take-byte c = search rules
 take-byte-requires : tie.Need-take-byte-requires invariant-loop decreases-loop
 take-byte-requires c κs = search rules
 
-add-end : tie.Need-overflow-add-end invariant-loop decreases-loop
+add-end : tie.Need-overflow_add-end invariant-loop decreases-loop
 add-end c = search rules
 
 loop-less : tie.Need-loop-smaller invariant-loop decreases-loop
@@ -62,8 +62,8 @@ returns-2 c =
     let l = c.before.loop in
     record { held = l.invariant.1; within = l.invariant.0; past = inr (omega arith) }
 
-pub take-front-spec : {M : Type 1} → statement M
-take-front-spec =
+pub take_front_spec : {M : Type 1} → statement M
+take_front_spec =
     tie.close
     (tie.spec
     invariant-loop

@@ -27,7 +27,7 @@ shared-slice-read-one-byte c = search rules
 one-byte-requires : tie.Need-one-byte-requires invariant-loop decreases-loop
 one-byte-requires c κs = c.before.before.before.loop.invariant.0
 
-add-i : tie.Need-overflow-add-i invariant-loop decreases-loop
+add-i : tie.Need-overflow_add-i invariant-loop decreases-loop
 add-i c = search rules
 
 loop-less : tie.Need-loop-smaller invariant-loop decreases-loop
@@ -46,8 +46,8 @@ loop-again c =
 returns : tie.Need-returns invariant-loop decreases-loop
 returns c = sym (c.before.loop.invariant.3 ∙ remainder-end c.before.before.before.args.payload.now c.before.loop.i _ (search rules))
 
-pub checksum-spec : {M : Type 1} → statement M
-checksum-spec =
+pub checksum_spec : {M : Type 1} → statement M
+checksum_spec =
     tie.close
     (tie.spec
     invariant-loop

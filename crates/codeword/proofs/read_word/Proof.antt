@@ -30,7 +30,7 @@ entry c = let (table, rate, word) = (begin c).requires in entry-is rate word (pl
 wide-requires : tie.Need-wide-requires
 wide-requires c κs = search rules
 
-add-power : tie.Need-overflow-add-power
+add-power : tie.Need-overflow_add-power
 add-power c = search rules
 
 power-requires : tie.Need-power-requires
@@ -39,13 +39,13 @@ power-requires c κs = search rules
 wide16-requires : tie.Need-wide16-requires
 wide16-requires c κs = search rules
 
-sub-place : tie.Need-overflow-sub-place
+sub-place : tie.Need-overflow_sub-place
 sub-place c = rw (power c) (power_le c.before.before.before.requires.1)
 
 wide-requires-2 : tie.Need-wide-requires-2
 wide-requires-2 c κs = search rules
 
-add-place : tie.Need-overflow-add-place
+add-place : tie.Need-overflow_add-place
 add-place c = search rules
 
 element-copy-out-result : tie.Need-element-copy-out-result
@@ -54,8 +54,8 @@ element-copy-out-result c = let (table, rate, word) = (begin c).requires in omeg
 returns : tie.Need-returns
 returns c = entry c.before
 
-pub read-word-spec : {M : Type 1} → statement M
-read-word-spec =
+pub read_word_spec : {M : Type 1} → statement M
+read_word_spec =
     tie.close
     (tie.spec
     wide-requires

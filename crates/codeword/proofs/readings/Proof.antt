@@ -13,5 +13,5 @@ returns : tie.Need-returns
 unfolding tab reading_table reading_at read_as bit_to flipped first apart how_many codeword codeword_bit parity_bit parity_of_all parity bit number
 returns c = refl
 
-pub readings-spec : {M : Type 1} → statement M
-readings-spec = tie.close (tie.spec returns)
+pub readings_spec : {M : Type 1} → statement M
+readings_spec = tie.close (tie.spec returns)

@@ -12,5 +12,5 @@ returns : tie.Need-returns
 unfolding tab row_of_code blank bit number codeword codeword_bit parity_bit parity parity_of_all
 returns c = refl
 
-pub rows-spec : {M : Type 1} → statement M
-rows-spec = tie.close (tie.spec returns)
+pub rows_spec : {M : Type 1} → statement M
+rows_spec = tie.close (tie.spec returns)

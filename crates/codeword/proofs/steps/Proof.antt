@@ -11,5 +11,5 @@ returns : tie.Need-returns
 unfolding tab step_table step_of packed
 returns c = refl
 
-pub steps-spec : {M : Type 1} → statement M
-steps-spec = tie.close (tie.spec returns)
+pub steps_spec : {M : Type 1} → statement M
+steps_spec = tie.close (tie.spec returns)

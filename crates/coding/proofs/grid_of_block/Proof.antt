@@ -23,17 +23,17 @@ decreases-loop rows nibbles line first n g₀ i₀ g i = 12 - i
 wide-requires : tie.Need-wide-requires invariant-loop decreases-loop
 wide-requires c κs = search rules
 
-sub-line : tie.Need-overflow-sub-line invariant-loop decreases-loop
+sub-line : tie.Need-overflow_sub-line invariant-loop decreases-loop
 sub-line c = search rules
 
-mul-line : tie.Need-overflow-mul-line invariant-loop decreases-loop
+mul-line : tie.Need-overflow_mul-line invariant-loop decreases-loop
 mul-line c = search rules
 
 loop-holds : tie.Need-loop-init invariant-loop decreases-loop
 unfolding blank
 loop-holds c = (search rules, filled_none _ _)
 
-add_wide : tie.Need-overflow-add-wide invariant-loop decreases-loop
+add_wide : tie.Need-overflow_add-wide invariant-loop decreases-loop
 add_wide c = search rules
 
 element-copy-out-wide : tie.Need-element-copy-out-wide invariant-loop decreases-loop
@@ -49,22 +49,22 @@ few c =
     let nibble : c.wide2.result < 16 = rw c.wide2.ensures (search s.requires.3) in
     omega (arith, c.before.before.before.before.before.wide.ensures, nibble)
 
-add-g : tie.Need-overflow-add-g invariant-loop decreases-loop
+add-g : tie.Need-overflow_add-g invariant-loop decreases-loop
 add-g c = omega (arith, few c)
 
-mul-g : tie.Need-overflow-mul-g invariant-loop decreases-loop
+mul-g : tie.Need-overflow_mul-g invariant-loop decreases-loop
 mul-g c = omega (arith, few c)
 
 element-copy-out-g : tie.Need-element-copy-out-g invariant-loop decreases-loop
 element-copy-out-g c = few c
 
-mul-g-2 : tie.Need-overflow-mul-g-2 invariant-loop decreases-loop
+mul-g-2 : tie.Need-overflow_mul-g-2 invariant-loop decreases-loop
 mul-g-2 c = search rules
 
 array-set-from-g : tie.Need-array-set-from-g invariant-loop decreases-loop
 array-set-from-g c = search rules
 
-add-i : tie.Need-overflow-add-i invariant-loop decreases-loop
+add-i : tie.Need-overflow_add-i invariant-loop decreases-loop
 add-i c = search rules
 
 loop-less : tie.Need-loop-smaller invariant-loop decreases-loop
@@ -86,8 +86,8 @@ returns c =
     let s = c.before.before.before in
     grid-laid s.args.b _ s.requires.0 s.requires.3 (omega arith) refl refl (filled-end c.before.loop.invariant.1 (omega arith))
 
-pub grid-of-block-spec : {M : Type 1} → statement M
-grid-of-block-spec =
+pub grid_of_block_spec : {M : Type 1} → statement M
+grid_of_block_spec =
     tie.close
     (tie.spec
     invariant-loop

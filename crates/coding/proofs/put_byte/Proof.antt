@@ -8,7 +8,7 @@ use Rattle.coding.proofs.put_byte.Tie as tie
 element-write-nibbles : tie.Need-element-write-nibbles
 element-write-nibbles c = search rules
 
-add-nibbles : tie.Need-overflow-add-nibbles
+add-nibbles : tie.Need-overflow_add-nibbles
 add-nibbles c = search rules
 
 element-write-nibbles-2 : tie.Need-element-write-nibbles-2
@@ -17,6 +17,6 @@ element-write-nibbles-2 c = search rules
 returns : tie.Need-returns
 returns c = two-nibbles c.args.byte c.args.at _ (omega arith)
 
-pub put-byte-spec : {M : Type 1} → statement M
-put-byte-spec =
+pub put_byte_spec : {M : Type 1} → statement M
+put_byte_spec =
     tie.close (tie.spec element-write-nibbles add-nibbles element-write-nibbles-2 returns)

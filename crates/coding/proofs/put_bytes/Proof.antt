@@ -21,16 +21,16 @@ loop-holds c = (search rules, filled_at-none _ _ _ (omega arith))
 element-copy-out-put-byte : tie.Need-element-copy-out-put-byte invariant-loop decreases-loop
 element-copy-out-put-byte c = search rules
 
-mul-put-byte : tie.Need-overflow-mul-put-byte invariant-loop decreases-loop
+mul-put-byte : tie.Need-overflow_mul-put-byte invariant-loop decreases-loop
 mul-put-byte c = search rules
 
-add-put-byte : tie.Need-overflow-add-put-byte invariant-loop decreases-loop
+add-put-byte : tie.Need-overflow_add-put-byte invariant-loop decreases-loop
 add-put-byte c = search rules
 
 put-byte-requires : tie.Need-put-byte-requires invariant-loop decreases-loop
 put-byte-requires c κs = search rules
 
-add-p : tie.Need-overflow-add-p invariant-loop decreases-loop
+add-p : tie.Need-overflow_add-p invariant-loop decreases-loop
 add-p c = search rules
 
 loop-less : tie.Need-loop-smaller invariant-loop decreases-loop
@@ -44,8 +44,8 @@ loop-again c =
 returns : tie.Need-returns invariant-loop decreases-loop
 returns c = filled_at-end c.before.loop.invariant.1 (omega arith)
 
-pub put-bytes-spec : {M : Type 1} → statement M
-put-bytes-spec =
+pub put_bytes_spec : {M : Type 1} → statement M
+put_bytes_spec =
     tie.close
     (tie.spec
     invariant-loop

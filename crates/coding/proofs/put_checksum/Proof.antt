@@ -8,16 +8,16 @@ use borrow.Author.Rules.{rules}
 use Rattle.coding.proofs.put_checksum.Statement.{statement}
 use Rattle.coding.proofs.put_checksum.Tie as tie
 
-cast-put-byte : tie.Need-overflow-cast-put-byte
+cast-put-byte : tie.Need-overflow_cast-put-byte
 cast-put-byte c = search rules
 
 put-byte-requires : tie.Need-put-byte-requires
 put-byte-requires c κs = search rules
 
-cast-put-byte-2 : tie.Need-overflow-cast-put-byte-2
+cast-put-byte-2 : tie.Need-overflow_cast-put-byte-2
 cast-put-byte-2 c = search rules
 
-add-put-byte : tie.Need-overflow-add-put-byte
+add-put-byte : tie.Need-overflow_add-put-byte
 add-put-byte c = search rules
 
 put-byte-requires-2 : tie.Need-put-byte-requires-2
@@ -30,8 +30,8 @@ returns c =
     let a = c.before.before.before.before.args in
     checksum-put a.checksum a.at _ (omega arith) c.before.before.put_byte.ensures c.put-byte2.ensures
 
-pub put-checksum-spec : {M : Type 1} → statement M
-put-checksum-spec =
+pub put_checksum_spec : {M : Type 1} → statement M
+put_checksum_spec =
     tie.close
     (tie.spec
     cast-put-byte

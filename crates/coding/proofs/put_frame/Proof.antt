@@ -42,10 +42,10 @@ copy-requires c κs = search rules
 put-payload-requires : tie.Need-put-payload-requires
 put-payload-requires c κs = search rules
 
-mul-put-checksum : tie.Need-overflow-mul-put-checksum
+mul-put-checksum : tie.Need-overflow_mul-put-checksum
 mul-put-checksum c = search rules
 
-add-put-checksum : tie.Need-overflow-add-put-checksum
+add-put-checksum : tie.Need-overflow_add-put-checksum
 add-put-checksum c = search rules
 
 put-checksum-requires : tie.Need-put-checksum-requires
@@ -66,8 +66,8 @@ returns-2 c =
     let s = from-payload c.before in
     fillers-laid _ _ _ _ _ s.pre.2 s.pre.0 s.pre.1 (bare-laid _ _ _ _ c.if1.false (laid c.before))
 
-pub put-frame-spec : {M : Type 1} → statement M
-put-frame-spec =
+pub put_frame_spec : {M : Type 1} → statement M
+put_frame_spec =
     tie.close
     (tie.spec
     copy-requires

@@ -25,7 +25,7 @@ returns c =
     let a = copied.before.before.before.args in
     payload-put a.payload.now a.at a.nibbles.now (blank 255 0) copied.copy.ensures white.whiten.ensures c.put-bytes.ensures
 
-pub put-payload-spec : {M : Type 1} → statement M
-put-payload-spec =
+pub put_payload_spec : {M : Type 1} → statement M
+put_payload_spec =
     tie.close
     (tie.spec slice-aggregate-copy copy-requires whiten-requires put-bytes-requires returns)

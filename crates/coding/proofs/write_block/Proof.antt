@@ -16,7 +16,7 @@ decreases-loop out₀ rows wide first columns words j₀ out j = columns - j
 wide-requires : tie.Need-wide-requires invariant-loop decreases-loop
 wide-requires c κs = search rules
 
-add-columns : tie.Need-overflow-add-columns invariant-loop decreases-loop
+add-columns : tie.Need-overflow_add-columns invariant-loop decreases-loop
 add-columns c = search rules
 
 words-of-grid-requires : tie.Need-words-of-grid-requires invariant-loop decreases-loop
@@ -25,7 +25,7 @@ words-of-grid-requires c κs = search rules
 loop-holds : tie.Need-loop-init invariant-loop decreases-loop
 loop-holds c = (search rules, filled_at-none _ _ _ (omega arith))
 
-mul-value-of-word : tie.Need-overflow-mul-value-of-word invariant-loop decreases-loop
+mul-value-of-word : tie.Need-overflow_mul-value-of-word invariant-loop decreases-loop
 mul-value-of-word c = search rules
 
 array-read-value-of-word : tie.Need-array-read-value-of-word invariant-loop decreases-loop
@@ -37,16 +37,16 @@ value-of-word-requires c κs = (search rules, word_small _ _ _ c.before.loop.j c
 number-of-value-requires : tie.Need-number-of-value-requires invariant-loop decreases-loop
 number-of-value-requires c κs = value-small _ _ (search rules) c.value-of-word.ensures
 
-add-out : tie.Need-overflow-add-out invariant-loop decreases-loop
+add-out : tie.Need-overflow_add-out invariant-loop decreases-loop
 add-out c = search rules
 
-mul-out : tie.Need-overflow-mul-out invariant-loop decreases-loop
+mul-out : tie.Need-overflow_mul-out invariant-loop decreases-loop
 mul-out c = search rules
 
 slice-write-out : tie.Need-slice-write-out invariant-loop decreases-loop
 slice-write-out c = search rules
 
-add-j : tie.Need-overflow-add-j invariant-loop decreases-loop
+add-j : tie.Need-overflow_add-j invariant-loop decreases-loop
 add-j c = search rules
 
 loop-less : tie.Need-loop-smaller invariant-loop decreases-loop
@@ -62,8 +62,8 @@ returns : tie.Need-returns invariant-loop decreases-loop
 returns c = filled_at-as c.before.loop.invariant.1 (omega arith)
     (λ i h. symbol-of-words c.before.before.before.before.before.args.b _ _ i c.before.before.words-of-grid.ensures (omega arith))
 
-pub write-block-spec : {M : Type 1} → statement M
-write-block-spec =
+pub write_block_spec : {M : Type 1} → statement M
+write_block_spec =
     tie.close
     (tie.spec
     invariant-loop

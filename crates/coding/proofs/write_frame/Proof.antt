@@ -70,7 +70,7 @@ nibbles-of-requires c κs = search rules
 later-blocks-requires : tie.Need-later-blocks-requires invariant-loop decreases-loop
 later-blocks-requires c κs = (search rules, few c)
 
-add-blocks : tie.Need-overflow-add-blocks invariant-loop decreases-loop
+add-blocks : tie.Need-overflow_add-blocks invariant-loop decreases-loop
 add-blocks c = omega (arith, later-few c)
 
 put-frame-requires : tie.Need-put-frame-requires invariant-loop decreases-loop
@@ -108,7 +108,7 @@ write-block-requires c κs =
     let s = start (put b) in
     (fits b, omega (arith, s.pre.2, block_room _ s.pre.0 (length s.args.payload.now) b.before.before.loop.k b.block_at.ensures (omega arith)))
 
-add-k : tie.Need-overflow-add-k invariant-loop decreases-loop
+add-k : tie.Need-overflow_add-k invariant-loop decreases-loop
 add-k c =
     let b = c.before.before.before.before.before.before.before in
     omega (arith, blocks-few (put b))
@@ -137,8 +137,8 @@ returns c =
     let now = c.before.loop in
     frame-end _ (start p).requires.0 _ _ now.k (laid p) now.invariant.3 (omega arith)
 
-pub write-frame-spec : {M : Type 1} → statement M
-write-frame-spec =
+pub write_frame_spec : {M : Type 1} → statement M
+write_frame_spec =
     tie.close
     (tie.spec
     invariant-loop

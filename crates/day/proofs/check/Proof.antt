@@ -107,8 +107,8 @@ returns-6 c =
     _ _ (sym known2.second.given.1 ∙ second.frames-part.ensures) _ _ (sym known3.third.given.1 ∙ third.refused-part.ensures)
     c.if2.false
 
-pub check-spec : {M : Type 1} → statement M
-check-spec =
+pub check_spec : {M : Type 1} → statement M
+check_spec =
     tie.close
     (tie.spec
     fault-requires

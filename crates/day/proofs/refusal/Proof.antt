@@ -16,5 +16,5 @@ returns c = rw c.before.part.given.1
 returns-2 : tie.Need-returns-2
 returns-2 c = rw c.before.part2.given.1
 
-pub refusal-spec : {M : Type 1} → statement M
-refusal-spec = tie.close (tie.spec enum-known-part enum-known-part-2 returns returns-2)
+pub refusal_spec : {M : Type 1} → statement M
+refusal_spec = tie.close (tie.spec enum-known-part enum-known-part-2 returns returns-2)

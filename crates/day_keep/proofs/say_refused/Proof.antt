@@ -26,8 +26,8 @@ write-first-requires c κs = let e = c.before.before.write-line.ensures in omega
 returns : tie.Need-returns
 returns c = search rules
 
-pub say-refused-spec : {M : Type 1} → statement M
-say-refused-spec =
+pub say_refused_spec : {M : Type 1} → statement M
+say_refused_spec =
     tie.close
     (tie.spec
     slice-aggregate-write-line

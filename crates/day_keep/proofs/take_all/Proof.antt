@@ -23,7 +23,7 @@ begin-requires c κs = search rules
 loop-holds : tie.Need-loop-init invariant-loop decreases-loop
 loop-holds c = (c.begin.ensures.going _ _ _ _ _ c.before.before.before.before.before.before.before.requires, search rules, search rules, search rules, search rules, search rules, search rules)
 
-sub-turns : tie.Need-overflow-sub-turns invariant-loop decreases-loop
+sub-turns : tie.Need-overflow_sub-turns invariant-loop decreases-loop
 sub-turns c = search rules
 
 read-some-requires : tie.Need-read-some-requires invariant-loop decreases-loop

@@ -48,8 +48,8 @@ same-length-5 c = search rules
 returns : tie.Need-returns invariant-loop decreases-loop
 returns c = c.before.loop.invariant.0
 
-pub take-chunk-spec : {M : Type 1} → statement M
-take-chunk-spec =
+pub take_chunk_spec : {M : Type 1} → statement M
+take_chunk_spec =
     tie.close
     (tie.spec
     invariant-loop

@@ -45,8 +45,8 @@ returns-2 c = search rules
 returns-3 : tie.Need-returns-3
 returns-3 c = search rules
 
-pub take-got-spec : {M : Type 1} → statement M
-take-got-spec =
+pub take_got_spec : {M : Type 1} → statement M
+take_got_spec =
     tie.close
     (tie.spec
     enum-known-got

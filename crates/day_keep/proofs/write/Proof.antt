@@ -9,13 +9,13 @@ use borrow.Author.Rules.{rules}
 use Rattle.day_keep.proofs.write.Statement.{statement}
 use Rattle.day_keep.proofs.write.Tie as tie
 
-mul-pairs : tie.Need-overflow-mul-pairs
+mul-pairs : tie.Need-overflow_mul-pairs
 mul-pairs c = search rules
 
-mul-fives : tie.Need-overflow-mul-fives
+mul-fives : tie.Need-overflow_mul-fives
 mul-fives c = search rules
 
-mul-threes : tie.Need-overflow-mul-threes
+mul-threes : tie.Need-overflow_mul-threes
 mul-threes c = search rules
 
 slice-aggregate-write : tie.Need-slice-aggregate-write

@@ -11,7 +11,7 @@ use borrow.Author.Rules.{rules}
 use Rattle.day_show.proofs.read_behind.Statement.{statement}
 use Rattle.day_show.proofs.read_behind.Tie as tie
 
-sub-read-some : tie.Need-overflow-sub-read-some
+sub-read-some : tie.Need-overflow_sub-read-some
 sub-read-some c = search rules
 
 part-read-some-start : tie.Need-slice-bounds-read-some-start
@@ -37,8 +37,8 @@ returns c =
     read_behind read.read_Some.result done part (put_mid done (length file - done) file part) read.read_Some.ensures
     (omega (arith, same_length c, read.read_Some.auto.0, start.requires, long))
 
-pub read-behind-spec : {M : Type 1} → statement M
-read-behind-spec =
+pub read_behind_spec : {M : Type 1} → statement M
+read_behind_spec =
     tie.close
     (tie.spec
     sub-read-some

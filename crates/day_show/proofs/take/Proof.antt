@@ -16,7 +16,7 @@ decreases-loop file₀ done₀ turns₀ file done turns = turns
 loop-holds : tie.Need-loop-init invariant-loop decreases-loop
 loop-holds c = search rules
 
-sub-turns : tie.Need-overflow-sub-turns invariant-loop decreases-loop
+sub-turns : tie.Need-overflow_sub-turns invariant-loop decreases-loop
 sub-turns c = search rules
 
 same_length : tie.Need-same-length invariant-loop decreases-loop
@@ -31,7 +31,7 @@ read-behind-requires c κs = search rules
 enum-known-n : tie.Need-enum-known-n invariant-loop decreases-loop
 enum-known-n c = search rules
 
-add_done : tie.Need-overflow-add-done invariant-loop decreases-loop
+add_done : tie.Need-overflow_add-done invariant-loop decreases-loop
 add_done c =
     let known = c.before in
     let n = rw known.n.given.1 at known.before.before.before.before.read_behind.ensures in

@@ -49,8 +49,8 @@ same-length-4 c = search rules
 returns-3 : tie.Need-returns-3
 returns-3 c = search rules
 
-pub show-next-spec : {M : Type 1} → statement M
-show-next-spec =
+pub show_next_spec : {M : Type 1} → statement M
+show_next_spec =
     tie.close
     (tie.spec
     take-requires

@@ -26,7 +26,7 @@ read-full-requires c κs = search rules
 returns : tie.Need-returns invariant-loop decreases-loop
 returns c = search rules
 
-sub-left : tie.Need-overflow-sub-left invariant-loop decreases-loop
+sub-left : tie.Need-overflow_sub-left invariant-loop decreases-loop
 sub-left c = search rules
 
 loop-less : tie.Need-loop-smaller invariant-loop decreases-loop
@@ -49,8 +49,8 @@ read-full-requires-2 c κs = search rules
 returns-2 : tie.Need-returns-2 invariant-loop decreases-loop
 returns-2 c = search rules
 
-pub skip-spec : {M : Type 1} → statement M
-skip-spec =
+pub skip_spec : {M : Type 1} → statement M
+skip_spec =
     tie.close
     (tie.spec
     invariant-loop

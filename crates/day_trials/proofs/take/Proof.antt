@@ -38,7 +38,7 @@ same_length c = search rules
 returns-3 : tie.Need-returns-3
 returns-3 c = search rules
 
-sub-skip : tie.Need-overflow-sub-skip
+sub-skip : tie.Need-overflow_sub-skip
 sub-skip c = search rules
 
 skip-requires : tie.Need-skip-requires

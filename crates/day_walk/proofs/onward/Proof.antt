@@ -170,9 +170,9 @@ onward-meets : {M : Type 1} {𝓤 : Ura M} (𝓛 : Logic 𝓤) (mem : Memory →
 onward-meets {𝓤 = 𝓤} 𝓛 mem run 𝓣 known-here = walk_Meets 𝓛 onward.ended stayed (Goes-none 𝓛 1 B yes (λ κs x f. refl), tt) (onward.clauses 𝓛 mem run) (WpFn 𝓤 𝓛.H 𝓣.C 𝓣.Λ code.function) (WpFn-mono 𝓤 𝓛.H 𝓛.laws 𝓣 code.function)
     (onward-walks 𝓛 mem run 𝓣.C 𝓣.Λ (fm_of 𝓤 𝓛.H 𝓛.laws 𝓣) known-here)
 
-pub onward-spec : {M : Type 1} → stated.statement M
+pub onward_spec : {M : Type 1} → stated.statement M
 unfolding code.routine tables_of
-onward-spec 𝓤 𝓛 𝓜 𝓡 =
+onward_spec 𝓤 𝓛 𝓜 𝓡 =
     entered 𝓤 𝓛.H (triple_of 𝓛 onward.signature (onward.spec 𝓛 𝓜.mem 𝓡.run))
     (tables 𝓤 𝓛.H 𝓜 𝓡 code.env).C (tables 𝓤 𝓛.H 𝓜 𝓡 code.env).Λ #day-walk·onward code.function (code.unfolded 𝓤 𝓛.H 𝓜 𝓡)
     (onward-meets 𝓛 𝓜.mem 𝓡.run (tables_of 𝓤 𝓛.H 𝓜 (tables 𝓤 𝓛.H 𝓜 𝓡 code.env))

@@ -12,7 +12,7 @@ entry-at-requires c κs = search rules
 enum-known-start : tie.Need-enum-known-start
 enum-known-start c = search rules
 
-sub-result : tie.Need-overflow-sub-result
+sub-result : tie.Need-overflow_sub-result
 sub-result c = let (low, high) = shown-lies _ _ _ _ _ _ _ _ _ (sym c.before.before.before.entry_at.ensures ∙ c.before.start.given.1) in low
 
 part-result-start : tie.Need-slice-bounds-result-start
@@ -60,8 +60,8 @@ returns-4 c = rw (sym c.before.before.before.entry_at.ensures ∙ c.before.enum-
 returns-5 : tie.Need-returns-5
 returns-5 c = rw (sym c.before.before.before.entry_at.ensures ∙ c.before.enum-told4.given.1)
 
-pub payload-at-spec : {M : Type 1} → statement M
-payload-at-spec =
+pub payload_at_spec : {M : Type 1} → statement M
+payload_at_spec =
     tie.close
     (tie.spec
     entry-at-requires

@@ -38,8 +38,8 @@ returns-4 c = rw (sym c.before.before.entry_at.ensures ∙ c.enum_told.given.1)
 returns-5 : tie.Need-returns-5
 returns-5 c = rw (sym c.before.before.entry_at.ensures ∙ c.enum-told2.given.1)
 
-pub place-behind-spec : {M : Type 1} → statement M
-place-behind-spec =
+pub place_behind_spec : {M : Type 1} → statement M
+place_behind_spec =
     tie.close
     (tie.spec
     entry-at-requires

@@ -174,9 +174,9 @@ seen-meets : {M : Type 1} {𝓤 : Ura M} (𝓛 : Logic 𝓤) (mem : Memory → S
 seen-meets {𝓤 = 𝓤} 𝓛 mem run 𝓣 known-open known-entry = walk_Meets 𝓛 seen.ended stayed (Goes-none_slice 𝓛 1 (0 ∷ []) tt (plain (λ _. u8)) yes, (Goes-none 𝓛 1 (λ _. P.the_row) yes (λ κs x f. refl), tt)) (seen.clauses 𝓛 mem run) (WpFn 𝓤 𝓛.H 𝓣.C 𝓣.Λ code.function) (WpFn-mono 𝓤 𝓛.H 𝓛.laws 𝓣 code.function)
     (seen-walks 𝓛 mem run 𝓣.C 𝓣.Λ (fm_of 𝓤 𝓛.H 𝓛.laws 𝓣) known-open known-entry)
 
-pub seen-spec : {M : Type 1} → stated.statement M
+pub seen_spec : {M : Type 1} → stated.statement M
 unfolding code.routine tables_of
-seen-spec 𝓤 𝓛 𝓜 𝓡 =
+seen_spec 𝓤 𝓛 𝓜 𝓡 =
     entered 𝓤 𝓛.H (triple_of 𝓛 seen.signature (seen.spec 𝓛 𝓜.mem 𝓡.run))
     (tables 𝓤 𝓛.H 𝓜 𝓡 code.env).C (tables 𝓤 𝓛.H 𝓜 𝓡 code.env).Λ #day-walk·seen code.function (code.unfolded 𝓤 𝓛.H 𝓜 𝓡)
     (seen-meets 𝓛 𝓜.mem 𝓡.run (tables_of 𝓤 𝓛.H 𝓜 (tables 𝓤 𝓛.H 𝓜 𝓡 code.env))

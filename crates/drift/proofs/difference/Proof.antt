@@ -16,20 +16,20 @@ same c = taken c.args.a c.args.b c.requires.2 c.requires.3
 fits : (c : tie.Start) → SFits w8 (pos c.args.a -ℤ pos c.args.b)
 fits c = narrow-fits c.args.a c.args.b (omega (arith, c.requires.0)) (omega (arith, c.requires.1))
 
-cast-result : tie.Need-overflow-cast-result
+cast-result : tie.Need-overflow_cast-result
 cast-result c = search rules
 
-cast-result-2 : tie.Need-overflow-cast-result-2
+cast-result-2 : tie.Need-overflow_cast-result-2
 cast-result-2 c = search rules
 
-sub-result : tie.Need-overflow-sub-result
+sub-result : tie.Need-overflow_sub-result
 sub-result c = taken-fits c.args.a c.args.b c.requires.2 c.requires.3
 
-cast-result-3 : tie.Need-overflow-cast-result-3
+cast-result-3 : tie.Need-overflow_cast-result-3
 cast-result-3 c = rw (to_z-of_z (sub-result c), same c) (fits c)
 
 returns : tie.Need-returns
 returns c = rw (to_z-of_z (sub-result c), same c) (to_z-of_z (fits c))
 
-pub difference-spec : {M : Type 1} → statement M
-difference-spec = tie.close (tie.spec cast-result cast-result-2 sub-result cast-result-3 returns)
+pub difference_spec : {M : Type 1} → statement M
+difference_spec = tie.close (tie.spec cast-result cast-result-2 sub-result cast-result-3 returns)

@@ -43,7 +43,7 @@ round_is c = c.power.ensures.0 ∙ ap (λ (k : ℕ). 2 ^ k) c.before.wide.ensure
 mark-of-number-requires : tie.Need-mark-of-number-requires
 mark-of-number-requires c κs = search rules
 
-add-if1 : tie.Need-overflow-add-if1
+add-if1 : tie.Need-overflow_add-if1
 add-if1 c = record { fits = omega (arith, mark-lt c, power_le c.before) }
 
 wide-requires : tie.Need-wide-requires
@@ -52,7 +52,7 @@ wide-requires c κs = search rules
 power-requires : tie.Need-power-requires
 power-requires c κs = search rules
 
-add-difference : tie.Need-overflow-add-difference
+add-difference : tie.Need-overflow_add-difference
 add-difference c =
     let m = c.before.before.before in
     record { fits = omega (arith, round_is c, mark-lt m, power_le m.before) }
@@ -79,8 +79,8 @@ difference-requires-2 c κs =
 returns-2 : tie.Need-returns-2
 returns-2 c = to_z-of_z {w = w8} (sfits_of c.difference2.type-inv) ∙ c.difference2.ensures ∙ (straight c.before).1
 
-pub drift-of-number-spec : {M : Type 1} → statement M
-drift-of-number-spec =
+pub drift_of_number_spec : {M : Type 1} → statement M
+drift_of_number_spec =
     tie.close
     (tie.spec
     mark-of-number-requires

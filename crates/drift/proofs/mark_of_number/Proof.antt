@@ -11,7 +11,7 @@ use Rattle.drift.proofs.mark_of_number.Tie as tie
 wide-requires : tie.Need-wide-requires
 wide-requires c κs = search rules
 
-sub-n : tie.Need-overflow-sub-n
+sub-n : tie.Need-overflow_sub-n
 sub-n c = search rules
 
 value-of-number-requires : tie.Need-value-of-number-requires
@@ -28,5 +28,5 @@ returns : tie.Need-returns
 unfolding mark_of
 returns c = cc
 
-pub mark-of-number-spec : {M : Type 1} → statement M
-mark-of-number-spec = tie.close (tie.spec wide-requires sub-n value-of-number-requires number-of-value-requires returns)
+pub mark_of_number_spec : {M : Type 1} → statement M
+mark_of_number_spec = tie.close (tie.spec wide-requires sub-n value-of-number-requires number-of-value-requires returns)

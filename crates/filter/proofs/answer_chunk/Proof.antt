@@ -66,8 +66,8 @@ same-length-4 c = search rules
 returns-2 : tie.Need-returns-2 invariant-loop decreases-loop
 returns-2 c = let l = c.before.loop in rw (part-all c.before.before.before.before.before.args.chunk.now l.at c.loop-test.false) at l.invariant.0
 
-pub answer-chunk-spec : {M : Type 1} → statement M
-answer-chunk-spec =
+pub answer_chunk_spec : {M : Type 1} → statement M
+answer_chunk_spec =
     tie.close
     (tie.spec
     invariant-loop

@@ -46,8 +46,8 @@ returns-2 c =
 returns-3 : tie.Need-returns-3
 returns-3 c = record { came = (c.before.before.got2.given.1, refl) }
 
-pub answer-got-spec : {M : Type 1} → statement M
-answer-got-spec =
+pub answer_got_spec : {M : Type 1} → statement M
+answer_got_spec =
     tie.close
     (tie.spec
     enum-known-got

@@ -27,6 +27,6 @@ returns c =
     let f = c.before.before.before.before.before.before.before.before.finish.ensures in
     (ap (λ (p : Point). p.counts) f.0.is, f.1, c.write-first.ensures)
 
-pub answer-last-spec : {M : Type 1} → statement M
-answer-last-spec =
+pub answer_last_spec : {M : Type 1} → statement M
+answer_last_spec =
     tie.close (tie.spec finish-requires write-first-requires same_length same-length-2 returns)

@@ -26,7 +26,7 @@ loop-holds c =
     let start = c.before.before.before in
     (([], stands_here start.args.progress start.args.numbers.now start.requires.0), search rules, search rules, search rules, search rules)
 
-sub-turns : tie.Need-overflow-sub-turns invariant-loop decreases-loop
+sub-turns : tie.Need-overflow_sub-turns invariant-loop decreases-loop
 sub-turns c = search rules
 
 read-some-requires : tie.Need-read-some-requires invariant-loop decreases-loop

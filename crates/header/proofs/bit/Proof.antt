@@ -6,12 +6,12 @@ use borrow.Author.Rules.{rules}
 use Rattle.header.proofs.bit.Statement.{statement}
 use Rattle.header.proofs.bit.Tie as tie
 
-shr-result : tie.Need-overflow-shr-result
+shr-result : tie.Need-overflow_shr-result
 shr-result c = search rules
 
 returns : tie.Need-returns
 unfolding bit
 returns c = (refl, mod-lt _ (zero-lt-suc 1))
 
-pub bit-spec : {M : Type 1} → statement M
-bit-spec = tie.close (tie.spec shr-result returns)
+pub bit_spec : {M : Type 1} → statement M
+bit_spec = tie.close (tie.spec shr-result returns)

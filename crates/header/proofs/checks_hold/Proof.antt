@@ -37,8 +37,8 @@ returns c = rw (c.low-checks.ensures, ← c.before.before.before.bit.ensures.0, 
 returns-2 : tie.Need-returns-2
 returns-2 c = rw (← c.before.before.bit.ensures.0, ← c.before.check4.ensures, ne_eqb _ _ c.if1.false)
 
-pub checks-hold-spec : {M : Type 1} → statement M
-checks-hold-spec =
+pub checks_hold_spec : {M : Type 1} → statement M
+checks_hold_spec =
     tie.close
     (tie.spec
     array-read-bit

@@ -21,8 +21,8 @@ array-read-t16 c = search rules
 returns : tie.Need-returns
 returns c = rw c.length-of.ensures
 
-pub header-in-spec : {M : Type 1} → statement M
-header-in-spec =
+pub header_in_spec : {M : Type 1} → statement M
+header_in_spec =
     tie.close
     (tie.spec
     array-read-length-of

@@ -4,10 +4,10 @@ use borrow.Author.Rules.{rules}
 use Rattle.header.proofs.header_nibbles.Statement.{statement}
 use Rattle.header.proofs.header_nibbles.Tie as tie
 
-cast-a : tie.Need-overflow-cast-a
+cast-a : tie.Need-overflow_cast-a
 cast-a c = search rules
 
-cast-b : tie.Need-overflow-cast-b
+cast-b : tie.Need-overflow_cast-b
 cast-b c = search rules
 
 third-requires : tie.Need-third-requires
@@ -23,6 +23,6 @@ returns : tie.Need-returns
 unfolding header_nibbles with_checks
 returns c = cc
 
-pub header-nibbles-spec : {M : Type 1} → statement M
-header-nibbles-spec =
+pub header_nibbles_spec : {M : Type 1} → statement M
+header_nibbles_spec =
     tie.close (tie.spec cast-a cast-b third-requires check4-requires low-checks-requires returns)

@@ -53,8 +53,8 @@ unfolding verdict_of
 returns-4 c =
     rw (checks-passed c.before.before.before, zeros-passed c.before.before, rate-passed c.before, c.header-in.ensures)
 
-pub judge-spec : {M : Type 1} → statement M
-judge-spec =
+pub judge_spec : {M : Type 1} → statement M
+judge_spec =
     tie.close
     (tie.spec
     checks-hold-requires

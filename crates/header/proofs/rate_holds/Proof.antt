@@ -16,5 +16,5 @@ returns c = rw (lt-ltb _ _ c.if1.true)
 returns-2 : tie.Need-returns-2
 returns-2 c = rw (le-ltb _ _ c.if1.false)
 
-pub rate-holds-spec : {M : Type 1} → statement M
-rate-holds-spec = tie.close (tie.spec array-read-if1 array-read-result returns returns-2)
+pub rate_holds_spec : {M : Type 1} → statement M
+rate_holds_spec = tie.close (tie.spec array-read-if1 array-read-result returns returns-2)

@@ -42,8 +42,8 @@ returns c =
     let heard = read.receive.ensures in
     rw (← done.finish.ensures.is, ← (hurt-line heard).1, ← (heard-line heard).2) c.before.before.answer-with.ensures
 
-pub answer-spec : {M : Type 1} → statement M
-answer-spec =
+pub answer_spec : {M : Type 1} → statement M
+answer_spec =
     tie.close
     (tie.spec
     finish-requires

@@ -44,8 +44,8 @@ returns-2 c =
       omega (arith, field-short s.args.symbol s.pre.0, decimal-short number.before.wide.result (search rules)),
     )
 
-pub put-entry-spec : {M : Type 1} → statement M
-put-entry-spec =
+pub put_entry_spec : {M : Type 1} → statement M
+put_entry_spec =
     tie.close
     (tie.spec
     returns

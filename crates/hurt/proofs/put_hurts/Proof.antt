@@ -32,7 +32,7 @@ shared-slice-read-put-entry c = search rules
 put-entry-requires : tie.Need-put-entry-requires invariant-loop decreases-loop
 put-entry-requires c κs = search rules
 
-add-i : tie.Need-overflow-add-i invariant-loop decreases-loop
+add-i : tie.Need-overflow_add-i invariant-loop decreases-loop
 add-i c = search rules
 
 loop-less : tie.Need-loop-smaller invariant-loop decreases-loop
@@ -54,8 +54,8 @@ returns : tie.Need-returns invariant-loop decreases-loop
 returns c =
     (rw (take_all c.before.loop.i c.before.before.before.before.args.hurts.now (search rules)) at c.before.loop.invariant.3, search rules)
 
-pub put-hurts-spec : {M : Type 1} → statement M
-put-hurts-spec =
+pub put_hurts_spec : {M : Type 1} → statement M
+put_hurts_spec =
     tie.close
     (tie.spec
     invariant-loop

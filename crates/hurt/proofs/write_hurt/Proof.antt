@@ -60,8 +60,8 @@ returns-2 c =
     rw line.before.before.before.before.received2.given.1
     (e.0, rw e.0 (room _ (line-length _ _ (search rules))), e.1)
 
-pub write-hurt-spec : {M : Type 1} → statement M
-write-hurt-spec =
+pub write_hurt_spec : {M : Type 1} → statement M
+write_hurt_spec =
     tie.close
     (tie.spec
     enum-known-received

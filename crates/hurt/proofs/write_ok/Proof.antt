@@ -26,6 +26,6 @@ returns c =
     let word = hurts.before.before.before.before in
     (put_on word.put_word.ensures (put_on hurts.put-hurts.ensures.0 end.put.ensures), search rules)
 
-pub write-ok-spec : {M : Type 1} → statement M
-write-ok-spec =
+pub write_ok_spec : {M : Type 1} → statement M
+write_ok_spec =
     tie.close (tie.spec put-word-requires put-hurts-requires put-requires same_length returns)

@@ -25,31 +25,31 @@ returns c = rw (c.before.if1.true, c.First-Block.ensures)
 wide-requires : tie.Need-wide-requires
 wide-requires c κs = search rules
 
-sub-first-rows : tie.Need-overflow-sub-first-rows
+sub-first-rows : tie.Need-overflow_sub-first-rows
 sub-first-rows c = search rules
 
 rows-of-later-requires : tie.Need-rows-of-later-requires
 rows-of-later-requires c κs = search rules
 
-sub-later : tie.Need-overflow-sub-later
+sub-later : tie.Need-overflow_sub-later
 sub-later c = search rules
 
-mul-t7 : tie.Need-overflow-mul-t7
+mul-t7 : tie.Need-overflow_mul-t7
 mul-t7 c = omega (arith, rows-small c)
 
-add-t8 : tie.Need-overflow-add-t8
+add-t8 : tie.Need-overflow_add-t8
 add-t8 c = omega (arith, rows-small c)
 
 wide-requires-2 : tie.Need-wide-requires-2
 wide-requires-2 c κs = search rules
 
-add-t10 : tie.Need-overflow-add-t10
+add-t10 : tie.Need-overflow_add-t10
 add-t10 c = search rules
 
-mul-t11 : tie.Need-overflow-mul-t11
+mul-t11 : tie.Need-overflow_mul-t11
 mul-t11 c = omega (arith, columns-small c)
 
-add-t12 : tie.Need-overflow-add-t12
+add-t12 : tie.Need-overflow_add-t12
 add-t12 c = omega (arith, columns-small c)
 
 returns-2 : tie.Need-returns-2
@@ -57,8 +57,8 @@ unfolding rows_of_first
 returns-2 c =
     rw (block-later c.before.before.before.before.args.f c.before.before.before.before.args.b (omega arith), c.before.before.wide.ensures, c.wide2.ensures, c.before.rows-of-later.ensures)
 
-pub block-at-spec : {M : Type 1} → statement M
-block-at-spec =
+pub block_at_spec : {M : Type 1} → statement M
+block_at_spec =
     tie.close
     (tie.spec
     first-block-requires

@@ -5,13 +5,13 @@ use borrow.Author.Rules.{rules}
 use Rattle.layout.proofs.data_nibbles.Statement.{statement}
 use Rattle.layout.proofs.data_nibbles.Tie as tie
 
-mul-result : tie.Need-overflow-mul-result
+mul-result : tie.Need-overflow_mul-result
 mul-result c = search rules
 
-add-result : tie.Need-overflow-add-result
+add-result : tie.Need-overflow_add-result
 add-result c = search rules
 
-mul-result-2 : tie.Need-overflow-mul-result-2
+mul-result-2 : tie.Need-overflow_mul-result-2
 mul-result-2 c = search rules
 
 returns : tie.Need-returns
@@ -22,5 +22,5 @@ returns-2 : tie.Need-returns-2
 unfolding data_nibbles
 returns-2 c = rw (c.if1.false, add-zero)
 
-pub data-nibbles-spec : {M : Type 1} → statement M
-data-nibbles-spec = tie.close (tie.spec mul-result add-result mul-result-2 returns returns-2)
+pub data_nibbles_spec : {M : Type 1} → statement M
+data_nibbles_spec = tie.close (tie.spec mul-result add-result mul-result-2 returns returns-2)

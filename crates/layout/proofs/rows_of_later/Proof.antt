@@ -7,7 +7,7 @@ use Rattle.layout.proofs.rows_of_later.Tie as tie
 wide-requires : tie.Need-wide-requires
 wide-requires c κs = search rules
 
-sub-result : tie.Need-overflow-sub-result
+sub-result : tie.Need-overflow_sub-result
 sub-result c = search rules
 
 wide-requires-2 : tie.Need-wide-requires-2
@@ -21,6 +21,6 @@ returns-2 : tie.Need-returns-2
 unfolding rows_of_later
 returns-2 c = rw (c.before.if1.false, c.wide2.ensures)
 
-pub rows-of-later-spec : {M : Type 1} → statement M
-rows-of-later-spec =
+pub rows_of_later_spec : {M : Type 1} → statement M
+rows_of_later_spec =
     tie.close (tie.spec wide-requires sub-result wide-requires-2 returns returns-2)

@@ -18,7 +18,7 @@ small c =
 wide-requires : tie.Need-wide-requires
 wide-requires c κs = search rules
 
-add-result : tie.Need-overflow-add-result
+add-result : tie.Need-overflow_add-result
 add-result c = search rules
 
 nibbles-of-requires : tie.Need-nibbles-of-requires
@@ -27,18 +27,18 @@ nibbles-of-requires c κs = search rules
 later-blocks-requires : tie.Need-later-blocks-requires
 later-blocks-requires c κs = (c.before.before.requires.0, few c)
 
-mul-result : tie.Need-overflow-mul-result
+mul-result : tie.Need-overflow_mul-result
 mul-result c = omega (arith, small c)
 
-add-result-2 : tie.Need-overflow-add-result-2
+add-result-2 : tie.Need-overflow_add-result-2
 add-result-2 c = omega (arith, small c)
 
 returns : tie.Need-returns
 unfolding symbols_of symbol_count
 returns c = rw (c.before.before.wide.ensures, c.later-blocks.ensures, c.before.nibbles-of.ensures)
 
-pub symbols-of-spec : {M : Type 1} → statement M
-symbols-of-spec =
+pub symbols_of_spec : {M : Type 1} → statement M
+symbols_of_spec =
     tie.close
     (tie.spec
     wide-requires

@@ -12,5 +12,5 @@ returns-2 : tie.Need-returns-2
 unfolding valid_cr
 returns-2 c = rw (le-leb _ _ c.if1.false)
 
-pub valid-cr-spec : {M : Type 1} → statement M
-valid-cr-spec = tie.close (tie.spec returns returns-2)
+pub valid_cr_spec : {M : Type 1} → statement M
+valid_cr_spec = tie.close (tie.spec returns returns-2)

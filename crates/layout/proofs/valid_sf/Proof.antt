@@ -12,5 +12,5 @@ returns-2 : tie.Need-returns-2
 unfolding valid_sf
 returns-2 c = rw (le-leb _ _ c.if1.false)
 
-pub valid-sf-spec : {M : Type 1} → statement M
-valid-sf-spec = tie.close (tie.spec returns returns-2)
+pub valid_sf_spec : {M : Type 1} → statement M
+valid_sf_spec = tie.close (tie.spec returns returns-2)

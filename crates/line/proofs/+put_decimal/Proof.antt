@@ -76,8 +76,8 @@ module _ (t : ℕ) where
       rw (decimal-more test.before.before.args.n test.if1.left (search rules), ← digit.decimal-digit2.ensures)
       (put_on (tenth digit).put-decimal.ensures c.before.before.put2.ensures)
 
-pub +put-decimal-spec : {M : Type 1} → statement M
-+put-decimal-spec = close μ λ t. tie.spec (calls t) (here t) own.Post
+pub +put_decimal_spec : {M : Type 1} → statement M
++put_decimal_spec = close μ λ t. tie.spec (calls t) (here t) own.Post
     (decimal-digit-requires t)
     (put-requires t)
     (put-decimal-requires t)

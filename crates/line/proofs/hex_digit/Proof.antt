@@ -6,10 +6,10 @@ use borrow.Author.Rules.{rules}
 use Rattle.line.proofs.hex_digit.Statement.{statement}
 use Rattle.line.proofs.hex_digit.Tie as tie
 
-add-result : tie.Need-overflow-add-result
+add-result : tie.Need-overflow_add-result
 add-result c = search rules
 
-add-result-2 : tie.Need-overflow-add-result-2
+add-result-2 : tie.Need-overflow_add-result-2
 add-result-2 c = search rules
 
 returns : tie.Need-returns
@@ -20,5 +20,5 @@ returns-2 : tie.Need-returns-2
 unfolding hex_digit
 returns-2 c = rw (le-ltb _ _ c.if1.false)
 
-pub hex-digit-spec : {M : Type 1} → statement M
-hex-digit-spec = tie.close (tie.spec add-result add-result-2 returns returns-2)
+pub hex_digit_spec : {M : Type 1} → statement M
+hex_digit_spec = tie.close (tie.spec add-result add-result-2 returns returns-2)

@@ -28,8 +28,8 @@ returns c =
     let first = second.before.before.before.before.before in
     rw (← first.before.hex-digit.ensures, ← second.before.hex-digit2.ensures) (put_on first.put.ensures second.put2.ensures)
 
-pub put-byte-spec : {M : Type 1} → statement M
-put-byte-spec =
+pub put_byte_spec : {M : Type 1} → statement M
+put_byte_spec =
     tie.close
     (tie.spec
     hex-digit-requires

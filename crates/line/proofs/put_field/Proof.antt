@@ -29,5 +29,5 @@ returns c =
     let space = digits.before.before.before.before in
     (put_on space.put.ensures digits.put-decimal.ensures, omega (arith, decimal-length (number space)))
 
-pub put-field-spec : {M : Type 1} → statement M
-put-field-spec = tie.close (tie.spec put-requires put-decimal-requires same_length returns)
+pub put_field_spec : {M : Type 1} → statement M
+put_field_spec = tie.close (tie.spec put-requires put-decimal-requires same_length returns)

@@ -39,7 +39,7 @@ put-byte-requires c κs =
     let i = now.loop.i in
     omega (arith, hex-length payload, hex-length (take i payload), length-take-le i payload (search rules))
 
-add-i : tie.Need-overflow-add-i invariant-loop decreases-loop
+add-i : tie.Need-overflow_add-i invariant-loop decreases-loop
 add-i c = search rules
 
 loop-less : tie.Need-loop-smaller invariant-loop decreases-loop
@@ -59,8 +59,8 @@ same_length c = search rules
 returns : tie.Need-returns invariant-loop decreases-loop
 returns c = rw (take_all c.before.loop.i c.before.before.before.before.args.payload.now (search rules)) at c.before.loop.invariant.2
 
-pub put-hex-spec : {M : Type 1} → statement M
-put-hex-spec =
+pub put_hex_spec : {M : Type 1} → statement M
+put_hex_spec =
     tie.close
     (tie.spec
     invariant-loop

@@ -23,6 +23,6 @@ returns c =
     let bytes = end.before.before.before.before in
     put_on bytes.before.before.before.before.put.ensures (put_on bytes.put-shown.ensures.0 end.put2.ensures)
 
-pub put-payload-spec : {M : Type 1} → statement M
-put-payload-spec =
+pub put_payload_spec : {M : Type 1} → statement M
+put_payload_spec =
     tie.close (tie.spec put-requires put-shown-requires put-requires-2 same_length returns)

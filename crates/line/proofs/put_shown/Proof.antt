@@ -29,6 +29,6 @@ returns-2 c =
     let payload = test.before.before.before.args.payload.now in
     (rw (shown-hex payload test.if1.false) c.before.before.put-hex.ensures, omega (arith, hex-length payload))
 
-pub put-shown-spec : {M : Type 1} → statement M
-put-shown-spec =
+pub put_shown_spec : {M : Type 1} → statement M
+put_shown_spec =
     tie.close (tie.spec put-requires put-hex-requires same_length returns same-length-2 returns-2)

@@ -19,5 +19,5 @@ returns c =
     let second = c.before.before in
     put_on second.before.before.before.before.put.ensures second.put2.ensures
 
-pub put-word-spec : {M : Type 1} → statement M
-put-word-spec = tie.close (tie.spec put-requires put-requires-2 same_length returns)
+pub put_word_spec : {M : Type 1} → statement M
+put_word_spec = tie.close (tie.spec put-requires put-requires-2 same_length returns)

@@ -30,7 +30,7 @@ put-requires c κs =
     let words = now.before.before.before.args.words.now in
     omega (arith, now.loop.invariant.2.next, now.loop.invariant.2.long, length-take-le now.loop.i words (search rules), c.before.before.loop-test.true)
 
-add-i : tie.Need-overflow-add-i invariant-loop decreases-loop
+add-i : tie.Need-overflow_add-i invariant-loop decreases-loop
 add-i c = search rules
 
 loop-less : tie.Need-loop-smaller invariant-loop decreases-loop
@@ -52,8 +52,8 @@ same_length c = search rules
 returns : tie.Need-returns invariant-loop decreases-loop
 returns c = rw (take_all c.before.loop.i c.before.before.before.before.args.words.now (search rules)) at c.before.loop.invariant.2
 
-pub put-words-spec : {M : Type 1} → statement M
-put-words-spec =
+pub put_words_spec : {M : Type 1} → statement M
+put_words_spec =
     tie.close
     (tie.spec
     invariant-loop

@@ -113,8 +113,8 @@ returns-2 c =
     (put_on place.put-field7.ensures.0
     end.put.ensures))))
 
-pub write-line-spec : {M : Type 1} → statement M
-write-line-spec =
+pub write_line_spec : {M : Type 1} → statement M
+write_line_spec =
     tie.close
     (tie.spec
     enum-known-answer

@@ -43,8 +43,8 @@ returns-3 c = λ old numbers l. rw c.before.enum-told3.given.1 (hurt-start (capt
 returns-4 : tie.Need-returns-4
 returns-4 c = λ old numbers l. rw c.before.enum-told4.given.1 (tally-start (capture-begun c.begin4.result numbers c.begin4.ensures l))
 
-pub anew-spec : {M : Type 1} → statement M
-anew-spec =
+pub anew_spec : {M : Type 1} → statement M
+anew_spec =
     tie.close
     (tie.spec
     enum_told

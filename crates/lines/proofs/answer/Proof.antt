@@ -83,8 +83,8 @@ returns-4 c =
     let out = match.before.before.before.before.args.out.now in
     rw match.piece4.given.1 (record { long = refl; short = omega arith; cells = sym (placed-nil 0 out); is = heard.hear.ensures })
 
-pub answer-spec : {M : Type 1} → statement M
-answer-spec =
+pub answer_spec : {M : Type 1} → statement M
+answer_spec =
     tie.close
     (tie.spec
     enum-known-piece

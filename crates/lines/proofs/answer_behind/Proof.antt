@@ -6,7 +6,7 @@ use borrow.Author.Rules.{rules}
 use Rattle.lines.proofs.answer_behind.Statement.{statement}
 use Rattle.lines.proofs.answer_behind.Tie as tie
 
-sub-answer : tie.Need-overflow-sub-answer
+sub-answer : tie.Need-overflow_sub-answer
 sub-answer c = search rules
 
 part-answer-start : tie.Need-slice-bounds-answer-start
@@ -31,8 +31,8 @@ returns c =
     let e = answered.answer.ensures in
     (put-part (omega (arith, e.long, e.short, pre.1)) e.long e.cells, e.short, e.is)
 
-pub answer-behind-spec : {M : Type 1} → statement M
-answer-behind-spec =
+pub answer_behind_spec : {M : Type 1} → statement M
+answer_behind_spec =
     tie.close
     (tie.spec
     sub-answer

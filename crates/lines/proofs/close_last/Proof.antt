@@ -31,5 +31,5 @@ returns-2 c =
     let e = at-end a.progress a.numbers.now false c.if1.false in
     (rw e.0 (stands_here a.progress a.numbers.now start.requires.0), rw e.1 (put-none 0 a.out.now (search rules)), search rules)
 
-pub close-last-spec : {M : Type 1} → statement M
-close-last-spec = tie.close (tie.spec close-piece-requires same_length same-length-2 returns returns-2)
+pub close_last_spec : {M : Type 1} → statement M
+close_last_spec = tie.close (tie.spec close-piece-requires same_length same-length-2 returns returns-2)

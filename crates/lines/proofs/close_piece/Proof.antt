@@ -15,7 +15,7 @@ anew-requires c κs = search rules
 count-in-requires : tie.Need-count-in-requires
 count-in-requires c κs = search rules
 
-add-t16 : tie.Need-overflow-add-t16
+add-t16 : tie.Need-overflow_add-t16
 add-t16 c = search rules
 
 same_length : tie.Need-same-length
@@ -35,8 +35,8 @@ returns c =
     let kept = answered.answer-behind.auto in
     (stands-next a.progress a.numbers.now (made.anew.ensures a.numbers.now _ (search rules)) c.before.count-in.ensures e.2, e.0, omega (arith, e.1))
 
-pub close-piece-spec : {M : Type 1} → statement M
-close-piece-spec =
+pub close_piece_spec : {M : Type 1} → statement M
+close_piece_spec =
     tie.close
     (tie.spec
     answer-behind-requires

@@ -11,5 +11,5 @@ returns c = (rw (eq-eqb _ _ c.if1.true), omega arith)
 returns-2 : tie.Need-returns-2
 returns-2 c = (rw (ne_eqb _ _ c.if1.false), omega arith)
 
-pub ends-line-spec : {M : Type 1} → statement M
-ends-line-spec = tie.close (tie.spec returns returns-2)
+pub ends_line_spec : {M : Type 1} → statement M
+ends_line_spec = tie.close (tie.spec returns returns-2)

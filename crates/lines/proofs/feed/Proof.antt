@@ -54,8 +54,8 @@ same-length-4 c = search rules
 returns-4 : tie.Need-returns-4
 returns-4 c = let e = c.before.before.feed4.ensures in rw c.before.before.before.before.before.piece4.given.1 (record { sane = e.sane; is = ap tally_at e.is })
 
-pub feed-spec : {M : Type 1} → statement M
-feed-spec =
+pub feed_spec : {M : Type 1} → statement M
+feed_spec =
     tie.close
     (tie.spec
     enum-known-piece

@@ -16,5 +16,5 @@ nothing-requires c κs = search rules
 returns : tie.Need-returns
 returns c = begins frames (λ numbers l. frame-start (holds-start c.before.begin.result numbers c.before.begin.ensures l)) c.nothing.ensures
 
-pub frames-spec : {M : Type 1} → statement M
-frames-spec = tie.close (tie.spec begin-requires nothing-requires returns)
+pub frames_spec : {M : Type 1} → statement M
+frames_spec = tie.close (tie.spec begin-requires nothing-requires returns)

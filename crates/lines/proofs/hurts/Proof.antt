@@ -16,5 +16,5 @@ nothing-requires c κs = search rules
 returns : tie.Need-returns
 returns c = begins hurts (λ numbers l. hurt-start (holds-start c.before.begin.result numbers c.before.begin.ensures l)) c.nothing.ensures
 
-pub hurts-spec : {M : Type 1} → statement M
-hurts-spec = tie.close (tie.spec begin-requires nothing-requires returns)
+pub hurts_spec : {M : Type 1} → statement M
+hurts_spec = tie.close (tie.spec begin-requires nothing-requires returns)

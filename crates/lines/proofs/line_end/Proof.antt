@@ -24,7 +24,7 @@ shared-slice-read-if1 c = search rules
 returns : tie.Need-returns invariant-loop decreases-loop
 returns c = let l = c.before.before.before.loop.invariant in record { forth = l.0; within = l.1; clear = l.2; here = λ h. c.if1.true }
 
-add-i : tie.Need-overflow-add-i invariant-loop decreases-loop
+add-i : tie.Need-overflow_add-i invariant-loop decreases-loop
 add-i c = search rules
 
 loop-less : tie.Need-loop-smaller invariant-loop decreases-loop
@@ -37,8 +37,8 @@ loop-again c = let l = c.before.before.before.loop.invariant in let a = c.before
 returns-2 : tie.Need-returns-2 invariant-loop decreases-loop
 returns-2 c = let l = c.before.loop.invariant in record { forth = l.0; within = l.1; clear = l.2; here = λ h. absurd (omega (arith, c.loop-test.false)) }
 
-pub line-end-spec : {M : Type 1} → statement M
-line-end-spec =
+pub line_end_spec : {M : Type 1} → statement M
+line_end_spec =
     tie.close
     (tie.spec
     invariant-loop

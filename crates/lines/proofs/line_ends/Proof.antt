@@ -25,10 +25,10 @@ shared-slice-read-ends-line c = search rules
 ends-line-requires : tie.Need-ends-line-requires invariant-loop decreases-loop
 ends-line-requires c κs = search rules
 
-add-ends : tie.Need-overflow-add-ends invariant-loop decreases-loop
+add-ends : tie.Need-overflow_add-ends invariant-loop decreases-loop
 add-ends c = search rules
 
-add-i : tie.Need-overflow-add-i invariant-loop decreases-loop
+add-i : tie.Need-overflow_add-i invariant-loop decreases-loop
 add-i c = search rules
 
 loop-less : tie.Need-loop-smaller invariant-loop decreases-loop
@@ -46,8 +46,8 @@ returns c =
     let e : l.i ≡ c.before.before.before.args.n = omega (arith, l.invariant, c.loop-test.false) in
     (rw (← e) l.invariant.2, search rules)
 
-pub line-ends-spec : {M : Type 1} → statement M
-line-ends-spec =
+pub line_ends_spec : {M : Type 1} → statement M
+line_ends_spec =
     tie.close
     (tie.spec
     invariant-loop

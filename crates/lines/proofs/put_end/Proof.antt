@@ -28,6 +28,6 @@ returns-2 c =
     let a = c.before.before.before.args in
     λ numbers. rw (end_none a.piece numbers a.counts (sym c.before.is-tally.ensures ∙ c.if1.false)) (put-none a.used a.out.now (search rules))
 
-pub put-end-spec : {M : Type 1} → statement M
-put-end-spec =
+pub put_end_spec : {M : Type 1} → statement M
+put_end_spec =
     tie.close (tie.spec is-tally-requires put-panel-requires same_length returns returns-2)

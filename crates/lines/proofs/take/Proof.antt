@@ -18,7 +18,7 @@ invariant-loop chunk at numbers₀ out₀ last step₀ numbers out step =
 abbrev decreases-loop : tie.decreases-loop
 decreases-loop chunk at numbers₀ out₀ last step₀ numbers out step = length chunk - step.at
 
-sub-last : tie.Need-overflow-sub-last invariant-loop decreases-loop
+sub-last : tie.Need-overflow_sub-last invariant-loop decreases-loop
 sub-last c = search rules
 
 take-piece-requires : tie.Need-take-piece-requires invariant-loop decreases-loop

@@ -5,7 +5,7 @@ use borrow.Author.Rules.{rules}
 use Rattle.lines.proofs.take_part.Statement.{statement}
 use Rattle.lines.proofs.take_part.Tie as tie
 
-sub-feed : tie.Need-overflow-sub-feed
+sub-feed : tie.Need-overflow_sub-feed
 sub-feed c = search rules
 
 part-feed-start : tie.Need-slice-bounds-feed-start
@@ -26,6 +26,6 @@ returns c =
     let a = fed.before.before.before.before.before.before.args in
     stands-fed a.progress a.numbers.now _ fed.feed.ensures
 
-pub take-part-spec : {M : Type 1} → statement M
-take-part-spec =
+pub take_part_spec : {M : Type 1} → statement M
+take_part_spec =
     tie.close (tie.spec sub-feed part-feed-start part-feed-end feed-requires same_length returns)

@@ -13,7 +13,7 @@ line-end-requires c κs = search rules
 take-part-requires : tie.Need-take-part-requires
 take-part-requires c κs = (c.before.before.before.before.before.requires.0, c.before.line-end.ensures)
 
-add-next : tie.Need-overflow-add-next
+add-next : tie.Need-overflow_add-next
 add-next c = search rules
 
 close-piece-requires : tie.Need-close-piece-requires
@@ -45,8 +45,8 @@ returns-2 c =
     let end = taken.before.before.line-end.ensures in
     (went-rest a.used a.out.now end taken.take_part.ensures start.requires.1 c.if1.false (search rules), omega (arith, c.if1.false, start.requires.1))
 
-pub take-piece-spec : {M : Type 1} → statement M
-take-piece-spec =
+pub take_piece_spec : {M : Type 1} → statement M
+take_piece_spec =
     tie.close
     (tie.spec
     line-end-requires

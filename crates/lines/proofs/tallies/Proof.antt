@@ -16,5 +16,5 @@ nothing-requires c κs = search rules
 returns : tie.Need-returns
 returns c = begins tallies (λ numbers l. tally-start (holds-start c.before.begin.result numbers c.before.begin.ensures l)) c.nothing.ensures
 
-pub tallies-spec : {M : Type 1} → statement M
-tallies-spec = tie.close (tie.spec begin-requires nothing-requires returns)
+pub tallies_spec : {M : Type 1} → statement M
+tallies_spec = tie.close (tie.spec begin-requires nothing-requires returns)

@@ -16,5 +16,5 @@ nothing-requires c κs = search rules
 returns : tie.Need-returns
 returns c = begins wishes (λ numbers l. wish-start (holds-start c.before.begin.result numbers c.before.begin.ensures l)) c.nothing.ensures
 
-pub wishes-spec : {M : Type 1} → statement M
-wishes-spec = tie.close (tie.spec begin-requires nothing-requires returns)
+pub wishes_spec : {M : Type 1} → statement M
+wishes_spec = tie.close (tie.spec begin-requires nothing-requires returns)

@@ -51,8 +51,8 @@ returns-3 c =
     rw (sym k.airtime.ensures ∙ m.lasting2.given.1)
     (record { is = enough k.before.if1.false p.put2.ensures })
 
-pub airtime-into-spec : {M : Type 1} → statement M
-airtime-into-spec =
+pub airtime_into_spec : {M : Type 1} → statement M
+airtime_into_spec =
     tie.close
     (tie.spec
     returns

@@ -59,8 +59,8 @@ returns-3 c =
     rw (sym k.code.ensures.answer ∙ m.counted2.given.1)
     (record { is = enough h p.put2.ensures; symbols = lent-enough h (rw m.counted2.given.1 at k.code.ensures.cells) })
 
-pub code-into-spec : {M : Type 1} → statement M
-code-into-spec =
+pub code_into_spec : {M : Type 1} → statement M
+code_into_spec =
     tie.close
     (tie.spec
     returns

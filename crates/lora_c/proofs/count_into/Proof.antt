@@ -51,8 +51,8 @@ returns-3 c =
     rw (sym k.count.ensures ∙ m.counted2.given.1)
     (record { is = enough k.before.if1.false p.put2.ensures })
 
-pub count-into-spec : {M : Type 1} → statement M
-count-into-spec =
+pub count_into_spec : {M : Type 1} → statement M
+count_into_spec =
     tie.close
     (tie.spec
     returns

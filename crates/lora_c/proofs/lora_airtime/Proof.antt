@@ -15,6 +15,6 @@ same_length c = search rules
 returns : tie.Need-returns
 returns c = rw c.before.before.before.before.explicit.ensures at c.before.before.airtime-into.ensures
 
-pub lora-airtime-spec : {M : Type 1} → statement M
-lora-airtime-spec =
+pub lora_airtime_spec : {M : Type 1} → statement M
+lora_airtime_spec =
     tie.close (tie.spec explicit-requires airtime-into-requires same_length returns)

@@ -15,5 +15,5 @@ same_length c = search rules
 returns : tie.Need-returns
 returns c = rw c.before.before.before.before.explicit.ensures at c.before.before.count-into.ensures
 
-pub lora-count-spec : {M : Type 1} → statement M
-lora-count-spec = tie.close (tie.spec explicit-requires count-into-requires same_length returns)
+pub lora_count_spec : {M : Type 1} → statement M
+lora_count_spec = tie.close (tie.spec explicit-requires count-into-requires same_length returns)

@@ -23,7 +23,7 @@ put-requires c κs = search rules
 enum-known-heading-2 : tie.Need-enum-known-heading-2
 enum-known-heading-2 c = search rules
 
-cast-t23 : tie.Need-overflow-cast-t23
+cast-t23 : tie.Need-overflow_cast-t23
 cast-t23 c = search rules
 
 flag-requires : tie.Need-flag-requires
@@ -58,8 +58,8 @@ returns-3 c =
     rw (sym k.head.ensures ∙ m.heading2.given.1)
     (record { is = enough k.before.if1.false (rw f.flag.ensures at p.put2.ensures) })
 
-pub lora-head-spec : {M : Type 1} → statement M
-lora-head-spec =
+pub lora_head_spec : {M : Type 1} → statement M
+lora_head_spec =
     tie.close
     (tie.spec
     returns

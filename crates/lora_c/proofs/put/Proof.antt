@@ -18,19 +18,19 @@ decreases-loop answer₀ cells i₀ i-end answer i = i-end - i
 loop-holds : tie.Need-loop-init invariant-loop decreases-loop
 loop-holds c = (search rules, search rules, filled_none _ _)
 
-mul-answer : tie.Need-overflow-mul-answer invariant-loop decreases-loop
+mul-answer : tie.Need-overflow_mul-answer invariant-loop decreases-loop
 mul-answer c = search rules
 
 shared-slice-read-answer : tie.Need-shared-slice-read-answer invariant-loop decreases-loop
 shared-slice-read-answer c = search rules
 
-mul-answer-2 : tie.Need-overflow-mul-answer-2 invariant-loop decreases-loop
+mul-answer-2 : tie.Need-overflow_mul-answer-2 invariant-loop decreases-loop
 mul-answer-2 c = search rules
 
 slice-write-answer : tie.Need-slice-write-answer invariant-loop decreases-loop
 slice-write-answer c = search rules
 
-add-i : tie.Need-overflow-add-i invariant-loop decreases-loop
+add-i : tie.Need-overflow_add-i invariant-loop decreases-loop
 add-i c = search rules
 
 loop-less : tie.Need-loop-smaller invariant-loop decreases-loop

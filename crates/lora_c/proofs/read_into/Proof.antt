@@ -26,7 +26,7 @@ put-requires c κs = search rules
 enum-known-received-2 : tie.Need-enum-known-received-2
 enum-known-received-2 c = search rules
 
-cast-t31 : tie.Need-overflow-cast-t31
+cast-t31 : tie.Need-overflow_cast-t31
 cast-t31 c = search rules
 
 flag-requires : tie.Need-flag-requires
@@ -82,8 +82,8 @@ returns-3 c =
     rw (sym k.read.ensures.answer ∙ m.received2.given.1)
     (record { is = enough h (rw (f.flag.ensures, drift) at p.put2.ensures); bytes = lent-enough h (rw m.received2.given.1 at k.read.ensures.cells); marks = lent-enough h (rw m.received2.given.1 at k.read.ensures.marks) })
 
-pub read-into-spec : {M : Type 1} → statement M
-read-into-spec =
+pub read_into_spec : {M : Type 1} → statement M
+read_into_spec =
     tie.close
     (tie.spec
     returns

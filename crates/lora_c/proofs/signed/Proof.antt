@@ -18,22 +18,22 @@ negative c = below _ c.before.ranges.n c.if1.true
 positive : (c : tie.Else1) → (m : ℕ) × Above c.before.args.n m
 positive c = above _ c.before.ranges.n c.if1.false
 
-sub-result : tie.Need-overflow-sub-result
+sub-result : tie.Need-overflow_sub-result
 sub-result c =
     let (m, b) = negative c in
     subst (SFits w8) (sym b.less) (sfits_of b.few)
 
-cast-result : tie.Need-overflow-cast-result
+cast-result : tie.Need-overflow_cast-result
 cast-result c =
     let (m, b) = negative c in
     subst (λ (x : ℤ). T (non_neg x) × Fits w64 (nat_abs x)) (sym b.held) (tt, record { fits = omega (arith, b.few) })
 
-sub-result-2 : tie.Need-overflow-sub-result-2
+sub-result-2 : tie.Need-overflow_sub-result-2
 sub-result-2 c =
     let (m, b) = negative c in
     subst (λ (x : ℤ). nat_abs x ≤ 18446744073709551615) (sym b.held) (omega (arith, b.few))
 
-cast-result-2 : tie.Need-overflow-cast-result-2
+cast-result-2 : tie.Need-overflow_cast-result-2
 cast-result-2 c =
     let (m, b) = positive c in
     subst (λ (x : ℤ). T (non_neg x) × Fits w64 (nat_abs x)) (sym b.held) (tt, record { fits = omega (arith, b.few) })
@@ -48,5 +48,5 @@ returns-2 c =
     let (m, b) = positive c in
     ap nat_abs b.held ∙ sym b.cell
 
-pub signed-spec : {M : Type 1} → statement M
-signed-spec = tie.close (tie.spec sub-result cast-result sub-result-2 cast-result-2 returns returns-2)
+pub signed_spec : {M : Type 1} → statement M
+signed_spec = tie.close (tie.spec sub-result cast-result sub-result-2 cast-result-2 returns returns-2)

@@ -20,5 +20,5 @@ same-length-2 c = search rules
 returns : tie.Need-returns
 returns c = let e = c.before.before.before.before.before.before.answer.ensures in printing _ _ e.cells e.long c.write-first.ensures
 
-pub print-spec : {M : Type 1} → statement M
-print-spec = tie.close (tie.spec answer-requires write-first-requires same_length same-length-2 returns)
+pub print_spec : {M : Type 1} → statement M
+print_spec = tie.close (tie.spec answer-requires write-first-requires same_length same-length-2 returns)

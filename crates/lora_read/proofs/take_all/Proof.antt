@@ -25,7 +25,7 @@ loop-holds c =
     let e = c.begin.ensures in
     (([], holds-start c.begin.result _ e.0 e.1 e.2 e.3 c.before.before.before.requires), search rules, search rules)
 
-sub-turns : tie.Need-overflow-sub-turns invariant-loop decreases-loop
+sub-turns : tie.Need-overflow_sub-turns invariant-loop decreases-loop
 sub-turns c = search rules
 
 read-some-requires : tie.Need-read-some-requires invariant-loop decreases-loop

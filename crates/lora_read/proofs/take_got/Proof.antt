@@ -37,8 +37,8 @@ returns-2 c = (c.enum_told.given.1, refl, holds-here c.before.before.before.befo
 returns-3 : tie.Need-returns-3
 returns-3 c = c.before.got2.given.1
 
-pub take-got-spec : {M : Type 1} → statement M
-take-got-spec =
+pub take_got_spec : {M : Type 1} → statement M
+take_got_spec =
     tie.close
     (tie.spec
     enum-known-got

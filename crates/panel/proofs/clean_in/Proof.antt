@@ -13,5 +13,5 @@ together-requires c κs = search rules
 returns : tie.Need-returns
 returns c = rw c.before.wide32.ensures at c.together.ensures
 
-pub clean-in-spec : {M : Type 1} → statement M
-clean-in-spec = tie.close (tie.spec wide32-requires together-requires returns)
+pub clean_in_spec : {M : Type 1} → statement M
+clean_in_spec = tie.close (tie.spec wide32-requires together-requires returns)

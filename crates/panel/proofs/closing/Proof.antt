@@ -53,8 +53,8 @@ returns c =
     (put_on refused.put-field4.ensures.0
     end.put.ensures)))))
 
-pub closing-spec : {M : Type 1} → statement M
-closing-spec =
+pub closing_spec : {M : Type 1} → statement M
+closing_spec =
     tie.close
     (tie.spec
     put-end-requires

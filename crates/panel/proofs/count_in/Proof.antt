@@ -37,8 +37,8 @@ returns-2 c = rw (c.before.before.enum_told.given.1, c.before.one_more.ensures, 
 returns-3 : tie.Need-returns-3
 returns-3 c = rw (c.before.before.enum-told2.given.1, c.before.one-more3.ensures, c.one-more4.ensures)
 
-pub count-in-spec : {M : Type 1} → statement M
-count-in-spec =
+pub count_in_spec : {M : Type 1} → statement M
+count_in_spec =
     tie.close
     (tie.spec
     enum-known-outcome

@@ -25,7 +25,7 @@ returns c =
     let said = texts.before.before in
     rw (c.over_by.ensures, refused.refused-by.ensures, texts.one_more.ensures, said.hearing.ensures)
 
-pub hear-spec : {M : Type 1} → statement M
-hear-spec =
+pub hear_spec : {M : Type 1} → statement M
+hear_spec =
     tie.close
     (tie.spec hearing-requires one-more-requires refused-by-requires over-by-requires returns)

@@ -12,5 +12,5 @@ returns : tie.Need-returns
 unfolding none
 returns c = rw c.none.ensures
 
-pub nothing-spec : {M : Type 1} → statement M
-nothing-spec = tie.close (tie.spec none-requires returns)
+pub nothing_spec : {M : Type 1} → statement M
+nothing_spec = tie.close (tie.spec none-requires returns)

@@ -49,8 +49,8 @@ returns c =
       omega (arith, first.put-line.ensures.1, second.put-line2.ensures.1, third.put-line3.ensures.1),
     )
 
-pub put-accepted-spec : {M : Type 1} → statement M
-put-accepted-spec =
+pub put_accepted_spec : {M : Type 1} → statement M
+put_accepted_spec =
     tie.close
     (tie.spec
     slice-aggregate-put-line

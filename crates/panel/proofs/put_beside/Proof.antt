@@ -25,8 +25,8 @@ returns : tie.Need-returns
 unfolding beside_lines
 returns c = put_on c.before.before.before.before.before.before.before.put-line.ensures.0 c.before.before.put-line2.ensures.0
 
-pub put-beside-spec : {M : Type 1} → statement M
-put-beside-spec =
+pub put_beside_spec : {M : Type 1} → statement M
+put_beside_spec =
     tie.close
     (tie.spec
     slice-aggregate-put-line

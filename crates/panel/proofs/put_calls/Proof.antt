@@ -72,8 +72,8 @@ returns c =
       omega (arith, first.put-line.ensures.1, second.put-line2.ensures.1, third.put-line3.ensures.1, fourth.put-line4.ensures.1),
     )
 
-pub put-calls-spec : {M : Type 1} → statement M
-put-calls-spec =
+pub put_calls_spec : {M : Type 1} → statement M
+put_calls_spec =
     tie.close
     (tie.spec
     slice-aggregate-put-line

@@ -36,8 +36,8 @@ returns-2 c =
     let e = word.put-words2.ensures in
     (rw (ne_eqb _ _ word.before.before.before.if1.false) e, omega (arith, e.next))
 
-pub put-end-spec : {M : Type 1} → statement M
-put-end-spec =
+pub put_end_spec : {M : Type 1} → statement M
+put_end_spec =
     tie.close
     (tie.spec
     slice-aggregate-put-words

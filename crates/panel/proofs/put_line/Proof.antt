@@ -32,8 +32,8 @@ returns c =
     let e = words.put-words.ensures in
     (put_on e (put_on colon.put.ensures (put_on count.put-field.ensures.0 end.put2.ensures)), omega (arith, e.next, colon.put.ensures.next, count.put-field.ensures.1, end.put2.ensures.next))
 
-pub put-line-spec : {M : Type 1} → statement M
-put-line-spec =
+pub put_line_spec : {M : Type 1} → statement M
+put_line_spec =
     tie.close
     (tie.spec
     put-words-requires

@@ -38,8 +38,8 @@ returns c =
     (put_on checks.put-checks.ensures.0
     beside.put-beside.ensures)))
 
-pub put-panel-spec : {M : Type 1} → statement M
-put-panel-spec =
+pub put_panel_spec : {M : Type 1} → statement M
+put_panel_spec =
     tie.close
     (tie.spec
     put-accepted-requires

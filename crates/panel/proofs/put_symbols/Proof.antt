@@ -58,8 +58,8 @@ returns c =
       omega (arith, first.put-line.ensures.1, second.put-line2.ensures.1, third.put-line3.ensures.1),
     )
 
-pub put-symbols-spec : {M : Type 1} → statement M
-put-symbols-spec =
+pub put_symbols_spec : {M : Type 1} → statement M
+put_symbols_spec =
     tie.close
     (tie.spec
     slice-aggregate-put-line

@@ -23,6 +23,6 @@ returns-2 c = rw (c.before.before.before.answer.given.1, eq-eqb _ _ c.before.if1
 returns-3 : tie.Need-returns-3
 returns-3 c = rw (c.before.before.answer.given.1, ne_eqb _ _ c.if1.false)
 
-pub refused-by-spec : {M : Type 1} → statement M
-refused-by-spec =
+pub refused_by_spec : {M : Type 1} → statement M
+refused_by_spec =
     tie.close (tie.spec enum_told enum-known-answer one-more-requires returns returns-2 returns-3)

@@ -13,5 +13,5 @@ together-requires c κs = search rules
 returns : tie.Need-returns
 returns c = rw c.before.refused-in-all.ensures at c.together.ensures
 
-pub refused-in-spec : {M : Type 1} → statement M
-refused-in-spec = tie.close (tie.spec refused-in-all-requires together-requires returns)
+pub refused_in_spec : {M : Type 1} → statement M
+refused_in_spec = tie.close (tie.spec refused-in-all-requires together-requires returns)

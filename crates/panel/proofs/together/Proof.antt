@@ -8,10 +8,10 @@ use borrow.Author.Rules.{rules}
 use Rattle.panel.proofs.together.Statement.{statement}
 use Rattle.panel.proofs.together.Tie as tie
 
-sub-if1 : tie.Need-overflow-sub-if1
+sub-if1 : tie.Need-overflow_sub-if1
 sub-if1 c = search rules
 
-add-result : tie.Need-overflow-add-result
+add-result : tie.Need-overflow_add-result
 add-result c = search rules
 
 returns : tie.Need-returns
@@ -24,5 +24,5 @@ returns-2 c =
     let a = c.before.args in
     rw (lt-leb (a.a + a.b) largest (omega (arith, c.if1.false)))
 
-pub together-spec : {M : Type 1} → statement M
-together-spec = tie.close (tie.spec sub-if1 add-result returns returns-2)
+pub together_spec : {M : Type 1} → statement M
+together_spec = tie.close (tie.spec sub-if1 add-result returns returns-2)

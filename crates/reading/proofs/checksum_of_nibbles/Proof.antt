@@ -7,30 +7,30 @@ use Rattle.reading.proofs.checksum_of_nibbles.Tie as tie
 byte-of-nibbles-requires : tie.Need-byte-of-nibbles-requires
 byte-of-nibbles-requires c κs = search rules
 
-add-byte-of-nibbles : tie.Need-overflow-add-byte-of-nibbles
+add-byte-of-nibbles : tie.Need-overflow_add-byte-of-nibbles
 add-byte-of-nibbles c = search rules
 
 byte-of-nibbles-requires-2 : tie.Need-byte-of-nibbles-requires-2
 byte-of-nibbles-requires-2 c κs = search rules
 
-cast-result : tie.Need-overflow-cast-result
+cast-result : tie.Need-overflow_cast-result
 cast-result c = search rules
 
-cast-result-2 : tie.Need-overflow-cast-result-2
+cast-result-2 : tie.Need-overflow_cast-result-2
 cast-result-2 c = search rules
 
-mul-result : tie.Need-overflow-mul-result
+mul-result : tie.Need-overflow_mul-result
 mul-result c = search rules
 
-add-result : tie.Need-overflow-add-result
+add-result : tie.Need-overflow_add-result
 add-result c = search rules
 
 returns : tie.Need-returns
 unfolding sent_checksum
 returns c = rw (c.before.byte-of-nibbles.ensures, c.byte-of-nibbles2.ensures)
 
-pub checksum-of-nibbles-spec : {M : Type 1} → statement M
-checksum-of-nibbles-spec =
+pub checksum_of_nibbles_spec : {M : Type 1} → statement M
+checksum_of_nibbles_spec =
     tie.close
     (tie.spec
     byte-of-nibbles-requires

@@ -19,5 +19,5 @@ grid-of-block-requires c κs =
 returns : tie.Need-returns
 returns c = c.grid-of-block.ensures ∙ rw c.before.First-Block.ensures
 
-pub first-grid-spec : {M : Type 1} → statement M
-first-grid-spec = tie.close (tie.spec first-block-requires grid-of-block-requires returns)
+pub first_grid_spec : {M : Type 1} → statement M
+first_grid_spec = tie.close (tie.spec first-block-requires grid-of-block-requires returns)

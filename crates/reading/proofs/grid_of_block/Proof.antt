@@ -15,7 +15,7 @@ returns : tie.Need-returns
 unfolding grid_of_symbols
 returns c = c.grid-of-words.ensures ∙ rw c.before.words-of-block.ensures
 
-pub grid-of-block-spec : {M : Type 1} → statement M
-grid-of-block-spec =
+pub grid_of_block_spec : {M : Type 1} → statement M
+grid_of_block_spec =
     tie.close
     (tie.spec words-of-block-requires grid-of-words-requires returns)

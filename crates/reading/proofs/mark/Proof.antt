@@ -21,16 +21,16 @@ loop-holds : tie.Need-loop-init invariant-loop decreases-loop
 unfolding bytes_of
 loop-holds c = (search rules, filled_at-none _ _ _ (search rules), λ k. ap (λ (x : ℕ). byte_at x c.args.flips) (omega arith))
 
-cast-hurts : tie.Need-overflow-cast-hurts invariant-loop decreases-loop
+cast-hurts : tie.Need-overflow_cast-hurts invariant-loop decreases-loop
 cast-hurts c = search rules
 
-add-hurts : tie.Need-overflow-add-hurts invariant-loop decreases-loop
+add-hurts : tie.Need-overflow_add-hurts invariant-loop decreases-loop
 add-hurts c = search rules
 
 element-write-hurts : tie.Need-element-write-hurts invariant-loop decreases-loop
 element-write-hurts c = search rules
 
-add-j : tie.Need-overflow-add-j invariant-loop decreases-loop
+add-j : tie.Need-overflow_add-j invariant-loop decreases-loop
 add-j c = search rules
 
 loop-less : tie.Need-loop-smaller invariant-loop decreases-loop

@@ -28,7 +28,7 @@ byte-of-nibbles-requires c κs = search rules
 array-write-payload : tie.Need-array-write-payload invariant-loop decreases-loop
 array-write-payload c = search rules
 
-add-p : tie.Need-overflow-add-p invariant-loop decreases-loop
+add-p : tie.Need-overflow_add-p invariant-loop decreases-loop
 add-p c = search rules
 
 loop-less : tie.Need-loop-smaller invariant-loop decreases-loop
@@ -45,8 +45,8 @@ whiten-requires c κs = (search rules, c.before.before.loop.invariant.1.long ∙
 returns : tie.Need-returns invariant-loop decreases-loop
 returns c = c.whiten.ensures ∙ whitened-payload _ _ _ _ (filled-end c.before.before.before.loop.invariant.1 (omega arith))
 
-pub payload-of-nibbles-spec : {M : Type 1} → statement M
-payload-of-nibbles-spec =
+pub payload_of_nibbles_spec : {M : Type 1} → statement M
+payload_of_nibbles_spec =
     tie.close
     (tie.spec
     invariant-loop

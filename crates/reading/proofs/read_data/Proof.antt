@@ -34,7 +34,7 @@ room c = omega (arith, c.requires.5, c.requires.7)
 first-block-requires : tie.Need-first-block-requires
 first-block-requires c κs = search rules
 
-sub-inside : tie.Need-overflow-sub-inside
+sub-inside : tie.Need-overflow_sub-inside
 sub-inside c = omega (arith, fits c.before)
 
 least-requires : tie.Need-least-requires
@@ -71,7 +71,7 @@ returns c = let m = c.before.before in
       λ h. data-marked _ _ _ p.2 z.First-Block.ensures p.3 w.read-rows.ensures.0 least _ h c.if1.true w.read-rows.ensures.1 p.8 m.mark.ensures,
     )
 
-add-read-later : tie.Need-overflow-add-read-later
+add-read-later : tie.Need-overflow_add-read-later
 add-read-later c = search rules
 
 read-later-requires : tie.Need-read-later-requires
@@ -93,7 +93,7 @@ read-later-requires c κs = let e = c.before.before in
       rw all at (first-marked _ _ _ p.2 z.First-Block.ensures p.3 w.read-rows.ensures.0 least _ (omega (arith, least, e.if1.false)) w.read-rows.ensures.1 p.8 m.mark.ensures),
     )
 
-add-t20 : tie.Need-overflow-add-t20
+add-t20 : tie.Need-overflow_add-t20
 unfolding remaining
 add-t20 c =
     let l = c.before in
@@ -101,7 +101,7 @@ add-t20 c =
     let z = zero w in
     omega (arith, fits z, walk-range l.read-later.ensures.0, (begin z).pre.5)
 
-add-t23 : tie.Need-overflow-add-t23
+add-t23 : tie.Need-overflow_add-t23
 unfolding remaining
 add-t23 c =
     let l = c.before.before.before in
@@ -127,8 +127,8 @@ returns-2 c =
       λ h. l.read-later.ensures.1 (omega (arith, fits z)),
     )
 
-pub read-data-spec : {M : Type 1} → statement M
-read-data-spec =
+pub read_data_spec : {M : Type 1} → statement M
+read_data_spec =
     tie.close
     (tie.spec
     first-block-requires

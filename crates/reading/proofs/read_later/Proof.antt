@@ -66,7 +66,7 @@ first-block-requires c κs = search rules
 later-blocks-requires : tie.Need-later-blocks-requires invariant-loop decreases-loop
 later-blocks-requires c κs = search rules
 
-add-blocks : tie.Need-overflow-add-blocks invariant-loop decreases-loop
+add-blocks : tie.Need-overflow_add-blocks invariant-loop decreases-loop
 add-blocks c = omega (arith, few c)
 
 loop-holds : tie.Need-loop-init invariant-loop decreases-loop
@@ -75,7 +75,7 @@ loop-holds c = let p = c.before.before.before.requires in (search rules, search 
 block-at-requires : tie.Need-block-at-requires invariant-loop decreases-loop
 block-at-requires c κs = (search rules, omega (arith, few c.before.before, c.loop-test.true))
 
-sub-least : tie.Need-overflow-sub-least invariant-loop decreases-loop
+sub-least : tie.Need-overflow_sub-least invariant-loop decreases-loop
 sub-least c = omega (arith, (next c).below)
 
 least-requires : tie.Need-least-requires invariant-loop decreases-loop
@@ -101,16 +101,16 @@ read-rows-requires c κs = let d = c.before.before.before in
 mark-requires : tie.Need-mark-requires invariant-loop decreases-loop
 mark-requires c κs = let d = turn c.before in ((next d).room, d.before.before.loop.inv.2.marks.long)
 
-add-repairs : tie.Need-overflow-add-repairs invariant-loop decreases-loop
+add-repairs : tie.Need-overflow_add-repairs invariant-loop decreases-loop
 add-repairs c = let w = rows c.before in
     let t = (turn w).before in
     omega (arith, sofar-le t.before.loop.inv.2, walk-le w.read-rows.ensures.0, (rows_fit w.before.before.before.before).1, (begin t).pre.4)
 
-sub-t26 : tie.Need-overflow-sub-t26 invariant-loop decreases-loop
+sub-t26 : tie.Need-overflow_sub-t26 invariant-loop decreases-loop
 sub-t26 c = let d = turn (rows c.before.before.before) in
     omega (arith, (next d).behind, first_rows d.before.before.before.before)
 
-add-t27 : tie.Need-overflow-add-t27 invariant-loop decreases-loop
+add-t27 : tie.Need-overflow_add-t27 invariant-loop decreases-loop
 add-t27 c = let w = rows c.before.before.before.before in
     omega (arith, walk-range w.read-rows.ensures.0, (rows_fit w.before.before.before.before).1, (begin (turn w).before).pre.4)
 
@@ -126,7 +126,7 @@ returns c = let w = rows c.before.before.before.before in
       λ h. absurd (omega (arith, early)),
     )
 
-add-k : tie.Need-overflow-add-k invariant-loop decreases-loop
+add-k : tie.Need-overflow_add-k invariant-loop decreases-loop
 add-k c = let t = (turn (rows c.before.before.before)).before in
     omega (arith, few t.before.before, t.loop-test.taken)
 
@@ -143,7 +143,7 @@ loop-again c = let m = c.before.before.before in
           w.before.before.before.before.least.ensures (room d.before) w.read-rows.ensures.1 m.mark.ensures c.if1.false,
     )
 
-sub-t18 : tie.Need-overflow-sub-t18 invariant-loop decreases-loop
+sub-t18 : tie.Need-overflow_sub-t18 invariant-loop decreases-loop
 sub-t18 c = omega (arith, first_rows c.before.before.before, c.before.before.before.before.before.requires.3)
 
 returns-2 : tie.Need-returns-2 invariant-loop decreases-loop
@@ -153,8 +153,8 @@ returns-2 c = let l = c.before in
     = omega (arith, l.before.later-blocks.ensures) in
     (sofar-end l.loop.invariant.2 v last (first_rows l.before.before), λ h. sofar-marked l.loop.invariant.2 v last)
 
-pub read-later-spec : {M : Type 1} → statement M
-read-later-spec =
+pub read_later_spec : {M : Type 1} → statement M
+read_later_spec =
     tie.close
     (tie.spec
     invariant-loop

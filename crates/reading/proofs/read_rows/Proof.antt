@@ -91,14 +91,14 @@ more c =
 wide-requires : tie.Need-wide-requires invariant-loop decreases-loop
 wide-requires c κs = search rules
 
-add-columns : tie.Need-overflow-add-columns invariant-loop decreases-loop
+add-columns : tie.Need-overflow_add-columns invariant-loop decreases-loop
 add-columns c = search rules
 
 loop-holds : tie.Need-loop-init invariant-loop decreases-loop
 unfolding how_many
 loop-holds c = (search rules, refl, search rules, clear_none _, filled_at-none _ _ _ (search rules), c.before.requires.6 ∙ ap (flips _) (omega arith))
 
-add-codeword-of-grid : tie.Need-overflow-add-codeword-of-grid invariant-loop decreases-loop
+add-codeword-of-grid : tie.Need-overflow_add-codeword-of-grid invariant-loop decreases-loop
 add-codeword-of-grid c = search rules
 
 codeword-of-grid-requires : tie.Need-codeword-of-grid-requires invariant-loop decreases-loop
@@ -110,7 +110,7 @@ read-word-requires c κs = (search rules, search rules, word_fits c)
 unreadable-requires : tie.Need-unreadable-requires invariant-loop decreases-loop
 unreadable-requires c κs = search rules
 
-sub-t21 : tie.Need-overflow-sub-t21 invariant-loop decreases-loop
+sub-t21 : tie.Need-overflow_sub-t21 invariant-loop decreases-loop
 sub-t21 c =
     let l = c.before.before.before.before.before in
     rows-clean _ _ _ _ l.before.before.requires.2 l.loop.invariant.1 l.loop.invariant.3
@@ -124,7 +124,7 @@ returns c =
 nibble-requires : tie.Need-nibble-requires invariant-loop decreases-loop
 nibble-requires c κs = search rules
 
-add-nibbles : tie.Need-overflow-add-nibbles invariant-loop decreases-loop
+add-nibbles : tie.Need-overflow_add-nibbles invariant-loop decreases-loop
 add-nibbles c = search rules
 
 element-write-nibbles : tie.Need-element-write-nibbles invariant-loop decreases-loop
@@ -136,7 +136,7 @@ clean-requires c κs = search rules
 wide-requires-2 : tie.Need-wide-requires-2 invariant-loop decreases-loop
 wide-requires-2 c κs = search rules
 
-add-clean : tie.Need-overflow-add-clean invariant-loop decreases-loop
+add-clean : tie.Need-overflow_add-clean invariant-loop decreases-loop
 add-clean c =
     let l = c.before.before.before.before.before.before.before.before in
     let s = l.before.before in
@@ -149,13 +149,13 @@ flipped-bit-requires c κs = search rules
 wide-requires-3 : tie.Need-wide-requires-3 invariant-loop decreases-loop
 wide-requires-3 c κs = search rules
 
-mul-flips : tie.Need-overflow-mul-flips invariant-loop decreases-loop
+mul-flips : tie.Need-overflow_mul-flips invariant-loop decreases-loop
 mul-flips c = omega (arith, (counted c).1)
 
 element-copy-out-flips : tie.Need-element-copy-out-flips invariant-loop decreases-loop
 element-copy-out-flips c = (counted c).1
 
-add-flips : tie.Need-overflow-add-flips invariant-loop decreases-loop
+add-flips : tie.Need-overflow_add-flips invariant-loop decreases-loop
 add-flips c =
     let l = c.before.before.before.before.before.before.before.before.before.before.before in
     let s = l.before.before in
@@ -163,7 +163,7 @@ add-flips c =
     = rw (more c.before) (flips-lt _ _ (omega (arith, l.before.before.requires.3, l.loop.invariant.2, c.before.before.before.before.before.before.before.before.before.before.loop-test.true))) in
     omega (arith, below)
 
-add-i : tie.Need-overflow-add-i invariant-loop decreases-loop
+add-i : tie.Need-overflow_add-i invariant-loop decreases-loop
 add-i c = search rules
 
 loop-less : tie.Need-loop-smaller invariant-loop decreases-loop
@@ -185,7 +185,7 @@ loop-again c = let b = c.before in
       more b ∙ ap (flips _) (omega arith),
     )
 
-sub-t17 : tie.Need-overflow-sub-t17 invariant-loop decreases-loop
+sub-t17 : tie.Need-overflow_sub-t17 invariant-loop decreases-loop
 sub-t17 c =
     let l = c.before in
     let e : l.loop.i ≡ l.before.before.args.n = omega arith in
@@ -200,8 +200,8 @@ returns-2 c =
     = rw (← e) (rows-repairs _ _ _ _ s.requires.2 l.loop.invariant.1 l.loop.invariant.3) in
     (rw is (walk_end (rw e at l.loop.invariant.3) (rw e at l.loop.invariant.4)), rw e at l.loop.invariant.5)
 
-pub read-rows-spec : {M : Type 1} → statement M
-read-rows-spec =
+pub read_rows_spec : {M : Type 1} → statement M
+read_rows_spec =
     tie.close
     (tie.spec
     invariant-loop

@@ -19,17 +19,17 @@ decreases-loop symbols rows wide first columns words₀ j₀ words j = columns -
 wide-requires : tie.Need-wide-requires invariant-loop decreases-loop
 wide-requires c κs = search rules
 
-add-columns : tie.Need-overflow-add-columns invariant-loop decreases-loop
+add-columns : tie.Need-overflow_add-columns invariant-loop decreases-loop
 add-columns c = search rules
 
 loop-holds : tie.Need-loop-init invariant-loop decreases-loop
 unfolding blank
 loop-holds c = (search rules, search rules, filled_none _ _)
 
-add-word-of-number : tie.Need-overflow-add-word-of-number invariant-loop decreases-loop
+add-word-of-number : tie.Need-overflow_add-word-of-number invariant-loop decreases-loop
 add-word-of-number c = search rules
 
-mul-word-of-number : tie.Need-overflow-mul-word-of-number invariant-loop decreases-loop
+mul-word-of-number : tie.Need-overflow_mul-word-of-number invariant-loop decreases-loop
 mul-word-of-number c = search rules
 
 shared-slice-read-word-of-number : tie.Need-shared-slice-read-word-of-number invariant-loop decreases-loop
@@ -38,13 +38,13 @@ shared-slice-read-word-of-number c = search rules
 word-of-number-requires : tie.Need-word-of-number-requires invariant-loop decreases-loop
 word-of-number-requires c κs = search rules
 
-mul_words : tie.Need-overflow-mul-words invariant-loop decreases-loop
+mul_words : tie.Need-overflow_mul-words invariant-loop decreases-loop
 mul_words c = search rules
 
 array-write-words : tie.Need-array-write-words invariant-loop decreases-loop
 array-write-words c = search rules
 
-add-j : tie.Need-overflow-add-j invariant-loop decreases-loop
+add-j : tie.Need-overflow_add-j invariant-loop decreases-loop
 add-j c = search rules
 
 loop-less : tie.Need-loop-smaller invariant-loop decreases-loop
@@ -60,8 +60,8 @@ returns : tie.Need-returns invariant-loop decreases-loop
 unfolding symbol_word word_at
 returns c = filled-end c.before.loop.invariant.2 (omega arith)
 
-pub words-of-block-spec : {M : Type 1} → statement M
-words-of-block-spec =
+pub words_of_block_spec : {M : Type 1} → statement M
+words_of_block_spec =
     tie.close
     (tie.spec
     invariant-loop

@@ -24,7 +24,7 @@ returns c =
     let fields = c.before.before in
     put_on fields.before.before.before.before.put-words.ensures fields.put_two.ensures
 
-pub put-end-spec : {M : Type 1} → statement M
-put-end-spec =
+pub put_end_spec : {M : Type 1} → statement M
+put_end_spec =
     tie.close
     (tie.spec slice-aggregate-put-words put-words-requires put-two-requires same_length returns)

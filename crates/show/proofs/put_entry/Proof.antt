@@ -107,8 +107,8 @@ returns-5 c =
     let start = c.before.before.before.before in
     rw (stop-line start.args.payload.now c.enum-told2.given.1) (put-none _ _ (search rules))
 
-pub put-entry-spec : {M : Type 1} → statement M
-put-entry-spec =
+pub put_entry_spec : {M : Type 1} → statement M
+put_entry_spec =
     tie.close
     (tie.spec
     enum-known-entry

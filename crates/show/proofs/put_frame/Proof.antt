@@ -50,8 +50,8 @@ returns c =
     (put_on len.put-field5.ensures.0
     end.put_payload.ensures)))))
 
-pub put-frame-spec : {M : Type 1} → statement M
-put-frame-spec =
+pub put_frame_spec : {M : Type 1} → statement M
+put_frame_spec =
     tie.close
     (tie.spec
     slice-aggregate-put-words

@@ -24,7 +24,7 @@ returns c =
     let fields = c.before.before in
     put_on fields.before.before.before.before.put-words.ensures fields.put_three.ensures
 
-pub put-refused-spec : {M : Type 1} → statement M
-put-refused-spec =
+pub put_refused_spec : {M : Type 1} → statement M
+put_refused_spec =
     tie.close
     (tie.spec slice-aggregate-put-words put-words-requires put-three-requires same_length returns)

@@ -24,7 +24,7 @@ returns c =
     let fields = c.before.before in
     put_on fields.before.before.before.before.put-words.ensures fields.put_three.ensures
 
-pub put-setting-spec : {M : Type 1} → statement M
-put-setting-spec =
+pub put_setting_spec : {M : Type 1} → statement M
+put_setting_spec =
     tie.close
     (tie.spec slice-aggregate-put-words put-words-requires put-three-requires same_length returns)

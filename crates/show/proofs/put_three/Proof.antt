@@ -19,5 +19,5 @@ returns c =
     let end = c.before.before in
     put_on end.before.before.before.before.put-field.ensures.0 end.put_two.ensures
 
-pub put-three-spec : {M : Type 1} → statement M
-put-three-spec = tie.close (tie.spec put-field-requires put-two-requires same_length returns)
+pub put_three_spec : {M : Type 1} → statement M
+put_three_spec = tie.close (tie.spec put-field-requires put-two-requires same_length returns)

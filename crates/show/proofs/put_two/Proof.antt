@@ -23,6 +23,6 @@ returns c =
     let second = end.before.before.before.before in
     put_on second.before.before.before.before.put-field.ensures.0 (put_on second.put-field2.ensures.0 end.put.ensures)
 
-pub put-two-spec : {M : Type 1} → statement M
-put-two-spec =
+pub put_two_spec : {M : Type 1} → statement M
+put_two_spec =
     tie.close (tie.spec put-field-requires put-field-requires-2 put-requires same_length returns)

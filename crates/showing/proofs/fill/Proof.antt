@@ -18,7 +18,7 @@ invariant-loop bytes out₀ last place₀ used₀ over₀ out place used over = 
 abbrev decreases-loop : tie.decreases-loop
 decreases-loop bytes out₀ last place₀ used₀ over₀ out place used over = length out - used
 
-sub-last : tie.Need-overflow-sub-last invariant-loop decreases-loop
+sub-last : tie.Need-overflow_sub-last invariant-loop decreases-loop
 sub-last c = search rules
 
 over-at-requires : tie.Need-over-at-requires invariant-loop decreases-loop

@@ -15,5 +15,5 @@ is-over-requires c κs = search rules
 returns : tie.Need-returns
 returns c = c.is-over.ensures ∙ ap is_over c.before.seen.ensures
 
-pub over-at-spec : {M : Type 1} → statement M
-over-at-spec = tie.close (tie.spec seen-requires is-over-requires returns)
+pub over_at_spec : {M : Type 1} → statement M
+over_at_spec = tie.close (tie.spec seen-requires is-over-requires returns)

@@ -28,6 +28,6 @@ returns c =
     let part = put.before.before in
     rw (← part.part.ensures, ← part.before.seen.ensures) put.put-entry.ensures
 
-pub put-here-spec : {M : Type 1} → statement M
-put-here-spec =
+pub put_here_spec : {M : Type 1} → statement M
+put_here_spec =
     tie.close (tie.spec seen-requires part-requires put-entry-requires same_length returns)

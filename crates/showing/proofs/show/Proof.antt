@@ -56,8 +56,8 @@ returns-3 c =
     let known = number.before.before in
     told-refused (sym known.number.given.1 ∙ known.before.before.check.ensures) number.wide.ensures refusal.show-refusal.ensures
 
-pub show-spec : {M : Type 1} → statement M
-show-spec =
+pub show_spec : {M : Type 1} → statement M
+show_spec =
     tie.close
     (tie.spec
     check-requires

@@ -17,5 +17,5 @@ same_length c = search rules
 returns : tie.Need-returns
 returns c = put-printing c.before.before.before.before.put-end.ensures c.write.ensures
 
-pub show-end-spec : {M : Type 1} → statement M
-show-end-spec = tie.close (tie.spec put-end-requires write-requires same_length returns)
+pub show_end_spec : {M : Type 1} → statement M
+show_end_spec = tie.close (tie.spec put-end-requires write-requires same_length returns)

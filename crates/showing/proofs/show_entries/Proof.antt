@@ -39,7 +39,7 @@ returns-2 c =
     let e = part.show-part.ensures in
     λ h. reached-over _ _ (reached-more part.before.before.before.loop.invariant.0 e.0) (sym e.1 ∙ c.if2.true)
 
-add_turn : tie.Need-overflow-add-turn invariant-loop decreases-loop
+add_turn : tie.Need-overflow_add-turn invariant-loop decreases-loop
 add_turn c = search rules
 
 loop-less : tie.Need-loop-smaller invariant-loop decreases-loop
@@ -57,8 +57,8 @@ same-length-3 c = search rules
 returns-3 : tie.Need-returns-3 invariant-loop decreases-loop
 returns-3 c = λ h. absurd (let z : ◌≡◌ {A = ℕ} 0 1 = cc in omega arith)
 
-pub show-entries-spec : {M : Type 1} → statement M
-show-entries-spec =
+pub show_entries_spec : {M : Type 1} → statement M
+show_entries_spec =
     tie.close
     (tie.spec
     invariant-loop

@@ -19,5 +19,5 @@ returns c =
     let filled = c.before.before.before.before.before.fill.ensures in
     (passed filled.0 c.write.ensures, filled.1)
 
-pub show-part-spec : {M : Type 1} → statement M
-show-part-spec = tie.close (tie.spec fill-requires write-requires same_length returns)
+pub show_part_spec : {M : Type 1} → statement M
+show_part_spec = tie.close (tie.spec fill-requires write-requires same_length returns)

@@ -17,5 +17,5 @@ same_length c = search rules
 returns : tie.Need-returns
 returns c = put-printing c.before.before.before.before.put-no.ensures c.write.ensures
 
-pub show-refusal-spec : {M : Type 1} → statement M
-show-refusal-spec = tie.close (tie.spec put-no-requires write-requires same_length returns)
+pub show_refusal_spec : {M : Type 1} → statement M
+show_refusal_spec = tie.close (tie.spec put-no-requires write-requires same_length returns)

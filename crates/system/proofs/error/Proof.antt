@@ -15,7 +15,7 @@ use Rattle.system.proofs.error.Tie as tie
 errno-requires : tie.Need-errno-requires
 errno-requires c κs = search rules
 
-cast-result : tie.Need-overflow-cast-result
+cast-result : tie.Need-overflow_cast-result
 cast-result c =
     let n = c.before.errno.result in
     let f : SFits w32 n = record { sfits = c.before.errno.type-inv } in
@@ -28,5 +28,5 @@ returns c = search rules
 returns-2 : tie.Need-returns-2
 returns-2 c = search rules
 
-pub error-spec : {M : Type 1} → statement M
-error-spec = tie.close (tie.spec errno-requires cast-result returns returns-2)
+pub error_spec : {M : Type 1} → statement M
+error_spec = tie.close (tie.spec errno-requires cast-result returns returns-2)

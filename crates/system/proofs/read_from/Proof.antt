@@ -15,7 +15,7 @@ decreases-loop fd buffer₀ tries₀ buffer tries = tries
 loop-holds : tie.Need-loop-init invariant-loop decreases-loop
 loop-holds c = search rules
 
-sub-tries : tie.Need-overflow-sub-tries invariant-loop decreases-loop
+sub-tries : tie.Need-overflow_sub-tries invariant-loop decreases-loop
 sub-tries c = search rules
 
 read-requires : tie.Need-read-requires invariant-loop decreases-loop
@@ -63,8 +63,8 @@ same-length-4 c = search rules
 returns-4 : tie.Need-returns-4 invariant-loop decreases-loop
 returns-4 c = search rules
 
-pub read-from-spec : {M : Type 1} → statement M
-read-from-spec =
+pub read_from_spec : {M : Type 1} → statement M
+read_from_spec =
     tie.close
     (tie.spec
     invariant-loop

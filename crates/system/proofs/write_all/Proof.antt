@@ -15,7 +15,7 @@ decreases-loop fd bytes done₀ error₀ tries₀ done error tries = tries
 loop-holds : tie.Need-loop-init invariant-loop decreases-loop
 loop-holds c = search rules
 
-sub-tries : tie.Need-overflow-sub-tries invariant-loop decreases-loop
+sub-tries : tie.Need-overflow_sub-tries invariant-loop decreases-loop
 sub-tries c = search rules
 
 write-from-requires : tie.Need-write-from-requires invariant-loop decreases-loop
@@ -36,8 +36,8 @@ loop-again-2 c = search rules
 returns : tie.Need-returns invariant-loop decreases-loop
 returns c = search rules
 
-pub write-all-spec : {M : Type 1} → statement M
-write-all-spec =
+pub write_all_spec : {M : Type 1} → statement M
+write_all_spec =
     tie.close
     (tie.spec
     invariant-loop

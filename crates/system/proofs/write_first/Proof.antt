@@ -20,5 +20,5 @@ returns c =
     let sent : Handed (length (take a.n a.buffer.now)) c.write-all.result = c.write-all.ensures in
     rw (length-take-le a.n a.buffer.now c.before.before.before.requires) at sent
 
-pub write-first-spec : {M : Type 1} → statement M
-write-first-spec = tie.close (tie.spec slice-aggregate-write-all write-all-requires returns)
+pub write_first_spec : {M : Type 1} → statement M
+write_first_spec = tie.close (tie.spec slice-aggregate-write-all write-all-requires returns)

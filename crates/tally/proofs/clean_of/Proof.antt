@@ -18,5 +18,5 @@ returns c = rw c.before.before.before.o.given.1 c.bit.ensures
 returns-2 : tie.Need-returns-2
 returns-2 c = search rules
 
-pub clean-of-spec : {M : Type 1} → statement M
-clean-of-spec = tie.close (tie.spec enum-known-o bit-requires enum_told returns returns-2)
+pub clean_of_spec : {M : Type 1} → statement M
+clean_of_spec = tie.close (tie.spec enum-known-o bit-requires enum_told returns returns-2)

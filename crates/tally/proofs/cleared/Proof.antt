@@ -11,5 +11,5 @@ returns : tie.Need-returns
 unfolding clear_of
 returns c = rw c.none.ensures
 
-pub cleared-spec : {M : Type 1} → statement M
-cleared-spec = tie.close (tie.spec none-requires returns)
+pub cleared_spec : {M : Type 1} → statement M
+cleared_spec = tie.close (tie.spec none-requires returns)

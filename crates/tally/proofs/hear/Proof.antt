@@ -157,9 +157,9 @@ own_meets : {M : Type 1} {𝓤 : Ura M} (𝓛 : Logic 𝓤) → (mem' : Memory �
     → Meets 𝓛 own.signature (WpFn 𝓤 𝓛.H 𝓣.C 𝓣.Λ code.function) (own.spec 𝓛 mem' run)
 own_meets {𝓤 = 𝓤} 𝓛 mem' run 𝓣 known = walk_Meets 𝓛 own.ended stayed (goes 𝓛 mem' run) (own.clauses 𝓛 mem' run) (WpFn 𝓤 𝓛.H 𝓣.C 𝓣.Λ code.function) (WpFn-mono 𝓤 𝓛.H 𝓛.laws 𝓣 code.function) (own-walks 𝓛 mem' run 𝓣.C 𝓣.Λ (fm_of 𝓤 𝓛.H 𝓛.laws 𝓣) known)
 
-pub hear-spec : {M : Type 1} → stated.statement M
+pub hear_spec : {M : Type 1} → stated.statement M
 unfolding code.routine tables_of
-hear-spec 𝓤 𝓛 𝓜 𝓡 =
+hear_spec 𝓤 𝓛 𝓜 𝓡 =
     entered 𝓤 𝓛.H (triple_of 𝓛 own.signature (own.spec 𝓛 𝓜.mem 𝓡.run))
     (tables 𝓤 𝓛.H 𝓜 𝓡 code.env).C (tables 𝓤 𝓛.H 𝓜 𝓡 code.env).Λ #own code.function (code.unfolded 𝓤 𝓛.H 𝓜 𝓡)
     (own_meets 𝓛 𝓜.mem 𝓡.run (tables_of 𝓤 𝓛.H 𝓜 (tables 𝓤 𝓛.H 𝓜 𝓡 code.env))

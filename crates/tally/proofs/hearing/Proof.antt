@@ -26,7 +26,7 @@ returns-2 : tie.Need-returns-2
 unfolding hear_of
 returns-2 c = rw (sym c.before.before.before.is_Known.ensures ∙ not-false _ c.before.before.if1.false, ← c.before.single.ensures) c.join.ensures
 
-pub hearing-spec : {M : Type 1} → statement M
-hearing-spec =
+pub hearing_spec : {M : Type 1} → statement M
+hearing_spec =
     tie.close
     (tie.spec is-known-requires kept-requires returns single-requires join-requires returns-2)

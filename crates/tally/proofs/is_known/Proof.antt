@@ -18,5 +18,5 @@ returns c = search rules
 returns-2 : tie.Need-returns-2
 returns-2 c = rw c.before.before.o.given.1 c.read-gives.ensures
 
-pub is-known-spec : {M : Type 1} → statement M
-is-known-spec = tie.close (tie.spec enum_told enum-known-o read-gives-requires returns returns-2)
+pub is_known_spec : {M : Type 1} → statement M
+is_known_spec = tie.close (tie.spec enum_told enum-known-o read-gives-requires returns returns-2)

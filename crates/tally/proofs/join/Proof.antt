@@ -24,21 +24,21 @@ returns c = rw (sym c.before.before.together.ensures ∙ not-true _ c.before.if1
 sums-requires : tie.Need-sums-requires
 sums-requires c κs = (fit c.before.before).refused
 
-add-t9 : tie.Need-overflow-add-t9
+add-t9 : tie.Need-overflow_add-t9
 add-t9 c = let f = fit c.before.before.before.before.before in omega arith
 
-add-t10 : tie.Need-overflow-add-t10
+add-t10 : tie.Need-overflow_add-t10
 add-t10 c = let f = fit c.before.before.before.before.before.before.before in omega arith
 
-add-t11 : tie.Need-overflow-add-t11
+add-t11 : tie.Need-overflow_add-t11
 add-t11 c = let f = fit c.before.before.before.before.before.before.before.before.before in omega arith
 
 returns-2 : tie.Need-returns-2
 unfolding join_of plus
 returns-2 c = rw (sym c.before.before.before.before.before.before.before.before.before.before.together.ensures ∙ not-false _ c.before.before.before.before.before.before.before.before.before.if1.false, c.before.before.before.before.before.before.sums.ensures)
 
-pub join-spec : {M : Type 1} → statement M
-join-spec =
+pub join_spec : {M : Type 1} → statement M
+join_spec =
     tie.close
     (tie.spec
     together-requires

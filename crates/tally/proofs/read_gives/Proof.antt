@@ -16,5 +16,5 @@ returns-3 : tie.Need-returns-3
 unfolding read_gives
 returns-3 c = rw (le-leb _ _ c.before.if1.false, le-leb _ _ c.if2.false)
 
-pub read-gives-spec : {M : Type 1} → statement M
-read-gives-spec = tie.close (tie.spec returns returns-2 returns-3)
+pub read_gives_spec : {M : Type 1} → statement M
+read_gives_spec = tie.close (tie.spec returns returns-2 returns-3)

@@ -21,16 +21,16 @@ loop-holds c = (search rules, refl, filled_none _ _)
 refused-of-requires : tie.Need-refused-of-requires invariant-loop decreases-loop
 refused-of-requires c κs = search rules
 
-cast-c : tie.Need-overflow-cast-c invariant-loop decreases-loop
+cast-c : tie.Need-overflow_cast-c invariant-loop decreases-loop
 cast-c c = search rules
 
-mul-c : tie.Need-overflow-mul-c invariant-loop decreases-loop
+mul-c : tie.Need-overflow_mul-c invariant-loop decreases-loop
 mul-c c = search rules
 
 array-write-c : tie.Need-array-write-c invariant-loop decreases-loop
 array-write-c c = search rules
 
-add-n : tie.Need-overflow-add-n invariant-loop decreases-loop
+add-n : tie.Need-overflow_add-n invariant-loop decreases-loop
 add-n c = search rules
 
 loop-less : tie.Need-loop-smaller invariant-loop decreases-loop
@@ -42,8 +42,8 @@ loop-again c = (search rules, c.before.before.loop.invariant.1, filled_more c.be
 returns : tie.Need-returns invariant-loop decreases-loop
 returns c = filled-whole 13 c.before.loop.invariant.2 (omega arith) c.before.loop.invariant.1
 
-pub refusals-spec : {M : Type 1} → statement M
-refusals-spec =
+pub refusals_spec : {M : Type 1} → statement M
+refusals_spec =
     tie.close
     (tie.spec
     invariant-loop

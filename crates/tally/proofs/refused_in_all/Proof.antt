@@ -25,7 +25,7 @@ next n f e =
 loop-holds : tie.Need-loop-init invariant-loop decreases-loop
 loop-holds c = (search rules, sym (sum-zero 0 _ (λ t h. absurd (omega arith))), search rules)
 
-mul_wide : tie.Need-overflow-mul-wide invariant-loop decreases-loop
+mul_wide : tie.Need-overflow_mul-wide invariant-loop decreases-loop
 mul_wide c = search rules
 
 array-read-wide : tie.Need-array-read-wide invariant-loop decreases-loop
@@ -34,10 +34,10 @@ array-read-wide c = search rules
 wide-requires : tie.Need-wide-requires invariant-loop decreases-loop
 wide-requires c κs = search rules
 
-add-all : tie.Need-overflow-add-all invariant-loop decreases-loop
+add-all : tie.Need-overflow_add-all invariant-loop decreases-loop
 add-all c = omega (arith, c.before.before.loop.invariant.2, c.wide.ensures.1)
 
-add-i : tie.Need-overflow-add-i invariant-loop decreases-loop
+add-i : tie.Need-overflow_add-i invariant-loop decreases-loop
 add-i c = search rules
 
 loop-less : tie.Need-loop-smaller invariant-loop decreases-loop
@@ -55,8 +55,8 @@ returns c =
     let long : length c.before.before.before.args.t.refused ≡ 13 = search rules in
     l.invariant.1 ∙ ap sum (rw (end, ← long) (tab-get_or c.before.before.before.args.t.refused 0))
 
-pub refused-in-all-spec : {M : Type 1} → statement M
-refused-in-all-spec =
+pub refused_in_all_spec : {M : Type 1} → statement M
+refused_in_all_spec =
     tie.close
     (tie.spec
     invariant-loop

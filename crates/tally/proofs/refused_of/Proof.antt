@@ -18,5 +18,5 @@ returns c = search rules
 returns-2 : tie.Need-returns-2
 returns-2 c = rw c.before.before.o.given.1 c.bit.ensures
 
-pub refused-of-spec : {M : Type 1} → statement M
-refused-of-spec = tie.close (tie.spec enum_told enum-known-o bit-requires returns returns-2)
+pub refused_of_spec : {M : Type 1} → statement M
+refused_of_spec = tie.close (tie.spec enum_told enum-known-o bit-requires returns returns-2)

@@ -8,11 +8,11 @@ use borrow.Author.Rules.{rules}
 use Rattle.tally.proofs.room.Statement.{statement}
 use Rattle.tally.proofs.room.Tie as tie
 
-sub-result : tie.Need-overflow-sub-result
+sub-result : tie.Need-overflow_sub-result
 sub-result c = search rules
 
 returns : tie.Need-returns
 returns c = same-leb c.args.b (4294967295 - c.args.a) (c.args.a + c.args.b) most (λ h. omega arith) (λ h. omega arith)
 
-pub room-spec : {M : Type 1} → statement M
-room-spec = tie.close (tie.spec sub-result returns)
+pub room_spec : {M : Type 1} → statement M
+room_spec = tie.close (tie.spec sub-result returns)

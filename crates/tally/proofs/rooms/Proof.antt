@@ -20,13 +20,13 @@ decreases-loop a b i₀ i = 13 - i
 loop-holds : tie.Need-loop-init invariant-loop decreases-loop
 loop-holds c = (search rules, refl)
 
-mul-room : tie.Need-overflow-mul-room invariant-loop decreases-loop
+mul-room : tie.Need-overflow_mul-room invariant-loop decreases-loop
 mul-room c = search rules
 
 array-read-room : tie.Need-array-read-room invariant-loop decreases-loop
 array-read-room c = search rules
 
-mul-room-2 : tie.Need-overflow-mul-room-2 invariant-loop decreases-loop
+mul-room-2 : tie.Need-overflow_mul-room-2 invariant-loop decreases-loop
 mul-room-2 c = search rules
 
 array-read-room-2 : tie.Need-array-read-room-2 invariant-loop decreases-loop
@@ -41,7 +41,7 @@ returns c =
     let l = c.before.before.before.loop in
     rooms-no _ l.i l.invariant.1 (omega arith) (sym c.before.room.ensures ∙ not-true _ c.if1.true)
 
-add-i : tie.Need-overflow-add-i invariant-loop decreases-loop
+add-i : tie.Need-overflow_add-i invariant-loop decreases-loop
 add-i c = search rules
 
 loop-less : tie.Need-loop-smaller invariant-loop decreases-loop
@@ -56,8 +56,8 @@ loop-again c =
 returns-2 : tie.Need-returns-2 invariant-loop decreases-loop
 returns-2 c = rooms-yes _ c.before.loop.i c.before.loop.invariant.1 (omega arith)
 
-pub rooms-spec : {M : Type 1} → statement M
-rooms-spec =
+pub rooms_spec : {M : Type 1} → statement M
+rooms_spec =
     tie.close
     (tie.spec
     invariant-loop

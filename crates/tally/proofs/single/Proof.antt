@@ -17,5 +17,5 @@ returns : tie.Need-returns
 unfolding one
 returns c = rw (c.before.before.Clean-of.ensures, c.before.repaired-of.ensures, c.refusals.ensures)
 
-pub single-spec : {M : Type 1} → statement M
-single-spec = tie.close (tie.spec clean-of-requires repaired-of-requires refusals-requires returns)
+pub single_spec : {M : Type 1} → statement M
+single_spec = tie.close (tie.spec clean-of-requires repaired-of-requires refusals-requires returns)

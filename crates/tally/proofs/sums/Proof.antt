@@ -19,29 +19,29 @@ decreases-loop a b c₀ i₀ c i = 13 - i
 loop-holds : tie.Need-loop-init invariant-loop decreases-loop
 loop-holds c = (search rules, refl, filled_none _ _)
 
-mul-c : tie.Need-overflow-mul-c invariant-loop decreases-loop
+mul-c : tie.Need-overflow_mul-c invariant-loop decreases-loop
 mul-c c = search rules
 
 array-read-c : tie.Need-array-read-c invariant-loop decreases-loop
 array-read-c c = search rules
 
-mul-c-2 : tie.Need-overflow-mul-c-2 invariant-loop decreases-loop
+mul-c-2 : tie.Need-overflow_mul-c-2 invariant-loop decreases-loop
 mul-c-2 c = search rules
 
 array-read-c-2 : tie.Need-array-read-c-2 invariant-loop decreases-loop
 array-read-c-2 c = search rules
 
-add-c : tie.Need-overflow-add-c invariant-loop decreases-loop
+add-c : tie.Need-overflow_add-c invariant-loop decreases-loop
 unfolding sum_at
 add-c c = omega (arith, at_most _ 13 c.before.loop.i c.before.before.requires (omega arith))
 
-mul-c-3 : tie.Need-overflow-mul-c-3 invariant-loop decreases-loop
+mul-c-3 : tie.Need-overflow_mul-c-3 invariant-loop decreases-loop
 mul-c-3 c = search rules
 
 array-write-c : tie.Need-array-write-c invariant-loop decreases-loop
 array-write-c c = search rules
 
-add-i : tie.Need-overflow-add-i invariant-loop decreases-loop
+add-i : tie.Need-overflow_add-i invariant-loop decreases-loop
 add-i c = search rules
 
 loop-less : tie.Need-loop-smaller invariant-loop decreases-loop
@@ -54,8 +54,8 @@ loop-again c = (search rules, c.before.loop.invariant.1, filled_more c.before.lo
 returns : tie.Need-returns invariant-loop decreases-loop
 returns c = filled-whole 13 c.before.loop.invariant.2 (omega arith) c.before.loop.invariant.1
 
-pub sums-spec : {M : Type 1} → statement M
-sums-spec =
+pub sums_spec : {M : Type 1} → statement M
+sums_spec =
     tie.close
     (tie.spec
     invariant-loop

@@ -11,5 +11,5 @@ returns : tie.Need-returns
 unfolding take_in_of
 returns c = c.join.ensures
 
-pub taking-spec : {M : Type 1} → statement M
-taking-spec = tie.close (tie.spec join-requires returns)
+pub taking_spec : {M : Type 1} → statement M
+taking_spec = tie.close (tie.spec join-requires returns)

@@ -34,8 +34,8 @@ returns-4 : tie.Need-returns-4
 unfolding fits
 returns-4 c = rw (sym c.before.before.before.before.before.before.before.before.room.ensures ∙ not-false _ c.before.before.before.before.before.before.before.if1.false, sym c.before.before.before.before.before.before.room2.ensures ∙ not-false _ c.before.before.before.before.before.if2.false, sym c.before.before.before.before.room3.ensures ∙ not-false _ c.before.before.before.if3.false) c.rooms.ensures
 
-pub together-spec : {M : Type 1} → statement M
-together-spec =
+pub together_spec : {M : Type 1} → statement M
+together_spec =
     tie.close
     (tie.spec
     room-requires

@@ -8,16 +8,16 @@ use borrow.Author.Rules.{rules}
 use Rattle.text.proofs.add_digit.Statement.{statement}
 use Rattle.text.proofs.add_digit.Tie as tie
 
-mul-value : tie.Need-overflow-mul-value
+mul-value : tie.Need-overflow_mul-value
 mul-value c = search rules
 
-sub-value : tie.Need-overflow-sub-value
+sub-value : tie.Need-overflow_sub-value
 sub-value c = search rules
 
-add-value : tie.Need-overflow-add-value
+add-value : tie.Need-overflow_add-value
 add-value c = search rules
 
-add-t10 : tie.Need-overflow-add-t10
+add-t10 : tie.Need-overflow_add-t10
 add-t10 c = search rules
 
 returns : tie.Need-returns
@@ -36,6 +36,6 @@ returns-2 c =
     (grown-not a.b c.before.before.before.before.before.requires.0
     (⊎_elim (λ w. large-value a.scan.digits v w.1.left) (λ w. many-digits a.scan.digits v w.left) c.before.if1.branch))
 
-pub add-digit-spec : {M : Type 1} → statement M
-add-digit-spec =
+pub add_digit_spec : {M : Type 1} → statement M
+add_digit_spec =
     tie.close (tie.spec mul-value sub-value add-value add-t10 returns refused-requires returns-2)

@@ -47,7 +47,7 @@ slice-read-answer-frame c = search rules
 slice-read-answer-frame-2 : tie.Need-slice-read-answer-frame-2
 slice-read-answer-frame-2 c = search rules
 
-sub-answer-frame : tie.Need-overflow-sub-answer-frame
+sub-answer-frame : tie.Need-overflow_sub-answer-frame
 sub-answer-frame c = two c.before.before
 
 part-answer-frame-start : tie.Need-slice-bounds-answer-frame-start
@@ -74,8 +74,8 @@ returns-2 c =
     rw (frame_is _ (done test.before).finish.ensures, sym test.before.says-frame.ensures ∙ not-false _ test.if1.false, drop-take)
     frame.answer-frame.ensures
 
-pub answer-spec : {M : Type 1} → statement M
-answer-spec =
+pub answer_spec : {M : Type 1} → statement M
+answer_spec =
     tie.close
     (tie.spec
     finish-requires

@@ -37,8 +37,8 @@ returns c =
     let is = frame-read (narrowed-read narrow.before.before.before.args.sf narrow.narrow.ensures read.read.ensures) in
     rw (← is.1, ← is.2) c.before.before.answer-with.ensures
 
-pub answer-frame-spec : {M : Type 1} → statement M
-answer-frame-spec =
+pub answer_frame_spec : {M : Type 1} → statement M
+answer_frame_spec =
     tie.close
     (tie.spec
     narrow-requires

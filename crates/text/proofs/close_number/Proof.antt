@@ -8,16 +8,16 @@ use Rattle.text.proofs.close_number.Tie as tie
 returns : tie.Need-returns
 returns c = shut_none c.before.before.before.requires.0 c.if1.true
 
-cast-numbers : tie.Need-overflow-cast-numbers
+cast-numbers : tie.Need-overflow_cast-numbers
 cast-numbers c = search rules
 
-mul-numbers : tie.Need-overflow-mul-numbers
+mul-numbers : tie.Need-overflow_mul-numbers
 mul-numbers c = search rules
 
 slice-write-numbers : tie.Need-slice-write-numbers
 slice-write-numbers c = search rules
 
-add-t6 : tie.Need-overflow-add-t6
+add-t6 : tie.Need-overflow_add-t6
 add-t6 c = search rules
 
 same_length : tie.Need-same-length
@@ -32,8 +32,8 @@ refused-requires c κs = search rules
 returns-3 : tie.Need-returns-3
 returns-3 c = rw c.refused.ensures (shut-full c.before.before.before.before.before.requires.0 c.before.before.if1.false (search rules))
 
-pub close-number-spec : {M : Type 1} → statement M
-close-number-spec =
+pub close_number_spec : {M : Type 1} → statement M
+close_number_spec =
     tie.close
     (tie.spec
     returns

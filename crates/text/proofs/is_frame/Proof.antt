@@ -17,5 +17,5 @@ shared-slice-read-result c = search rules
 returns-3 : tie.Need-returns-3
 returns-3 c = frame-rate c.before.before.before.args.numbers.now (search rules) (search rules)
 
-pub is-frame-spec : {M : Type 1} → statement M
-is-frame-spec = tie.close (tie.spec returns returns-2 shared-slice-read-result returns-3)
+pub is_frame_spec : {M : Type 1} → statement M
+is_frame_spec = tie.close (tie.spec returns returns-2 shared-slice-read-result returns-3)

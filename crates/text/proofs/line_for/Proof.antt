@@ -60,8 +60,8 @@ returns-2 c =
     let e = line.write-line2.ensures in
     rw known.received2.given.1 (e.0, rw e.0 (line-length _ _ (long known)), e.1)
 
-pub line-for-spec : {M : Type 1} → statement M
-line-for-spec =
+pub line_for_spec : {M : Type 1} → statement M
+line_for_spec =
     tie.close
     (tie.spec
     enum-known-received

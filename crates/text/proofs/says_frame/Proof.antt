@@ -18,5 +18,5 @@ is-frame-requires c κs = search rules
 returns-2 : tie.Need-returns-2
 returns-2 c = rw c.before.before.if1.false c.is-frame.ensures
 
-pub says-frame-spec : {M : Type 1} → statement M
-says-frame-spec = tie.close (tie.spec returns slice-aggregate-is-frame is-frame-requires returns-2)
+pub says_frame_spec : {M : Type 1} → statement M
+says_frame_spec = tie.close (tie.spec returns slice-aggregate-is-frame is-frame-requires returns-2)

@@ -56,8 +56,8 @@ returns-4 c =
     (⊎_elim (λ w. above-digits b w.1.left) (λ w. below-digits b w.left) c.before.if4.branch)
     (rw c.refused.ensures (holds-refused going.before.before.requires))
 
-pub take-byte-spec : {M : Type 1} → statement M
-take-byte-spec =
+pub take_byte_spec : {M : Type 1} → statement M
+take_byte_spec =
     tie.close
     (tie.spec
     returns

@@ -31,7 +31,7 @@ array-read-bytes c = search rules
 element-write-bytes : tie.Need-element-write-bytes invariant-loop decreases-loop
 element-write-bytes c = search rules
 
-add-p : tie.Need-overflow-add-p invariant-loop decreases-loop
+add-p : tie.Need-overflow_add-p invariant-loop decreases-loop
 add-p c = search rules
 
 loop-less : tie.Need-loop-smaller invariant-loop decreases-loop
@@ -48,8 +48,8 @@ loop-again c =
 returns : tie.Need-returns invariant-loop decreases-loop
 returns c = filled-end c.before.loop.invariant.1 (search rules)
 
-pub whiten-spec : {M : Type 1} → statement M
-whiten-spec =
+pub whiten_spec : {M : Type 1} → statement M
+whiten_spec =
     tie.close
     (tie.spec
     invariant-loop

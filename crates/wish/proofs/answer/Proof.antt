@@ -44,8 +44,8 @@ returns-2 c =
     let test = c.before.before.before.before.before in
     rw (wish-is (start test.before).requires.0, sym test.before.is-wish.ensures ∙ not-false _ test.if1.false) c.before.before.answer-wish.ensures
 
-pub answer-spec : {M : Type 1} → statement M
-answer-spec =
+pub answer_spec : {M : Type 1} → statement M
+answer_spec =
     tie.close
     (tie.spec
     is-wish-requires

@@ -59,8 +59,8 @@ returns c =
     let coding = coding-of {payload = tab a.bytes f} s fill.before.settings-of.ensures (rw payload (take-over a.bytes f (blank 256 0))) call.code.ensures in
     rw (← coded-line s (tab a.bytes f) coding, ← coded-outcome s (tab a.bytes f) coding, ← fill.before.settings-of.ensures) line.answer-with.ensures
 
-pub answer-wish-spec : {M : Type 1} → statement M
-answer-wish-spec =
+pub answer_wish_spec : {M : Type 1} → statement M
+answer_wish_spec =
     tie.close
     (tie.spec
     settings-of-requires

@@ -47,8 +47,8 @@ same-length-2 c = search rules
 returns-2 : tie.Need-returns-2
 returns-2 c = rw c.before.before.before.before.before.counted2.given.1 c.before.before.decline.ensures
 
-pub answer-with-spec : {M : Type 1} → statement M
-answer-with-spec =
+pub answer_with_spec : {M : Type 1} → statement M
+answer_with_spec =
     tie.close
     (tie.spec
     enum-known-counted

@@ -14,5 +14,5 @@ returns c = rw (is-hex _ c.before.hex-value.ensures c.if1.true)
 returns-2 : tie.Need-returns-2
 returns-2 c = rw (no-hex _ c.before.hex-value.ensures c.if1.false)
 
-pub close-byte-spec : {M : Type 1} → statement M
-close-byte-spec = tie.close (tie.spec hex-value-requires returns returns-2)
+pub close_byte_spec : {M : Type 1} → statement M
+close_byte_spec = tie.close (tie.spec hex-value-requires returns returns-2)

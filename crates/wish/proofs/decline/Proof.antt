@@ -28,8 +28,8 @@ returns c =
     let e = line.write-line.ensures in
     record { long = e.0; short = let l = line-length (Refused a.number a.place) [] (omega arith) in omega (arith, e.0); cells = e.1; is = refl }
 
-pub decline-spec : {M : Type 1} → statement M
-decline-spec =
+pub decline_spec : {M : Type 1} → statement M
+decline_spec =
     tie.close
     (tie.spec
     array-share-prefix-none

@@ -31,7 +31,7 @@ shared-slice-read-take-byte c = search rules
 take-byte-requires : tie.Need-take-byte-requires invariant-loop decreases-loop
 take-byte-requires c κs = search rules
 
-add-i : tie.Need-overflow-add-i invariant-loop decreases-loop
+add-i : tie.Need-overflow_add-i invariant-loop decreases-loop
 add-i c = search rules
 
 loop-less : tie.Need-loop-smaller invariant-loop decreases-loop
@@ -53,8 +53,8 @@ returns c =
     let l = c.before.loop in
     rw (take_all l.i c.before.before.before.before.args.piece.now (omega arith)) at l.invariant.2
 
-pub feed-spec : {M : Type 1} → statement M
-feed-spec =
+pub feed_spec : {M : Type 1} → statement M
+feed_spec =
     tie.close
     (tie.spec
     invariant-loop

@@ -53,8 +53,8 @@ returns-6 c = search rules
 returns-7 : tie.Need-returns-7
 returns-7 c = search rules
 
-pub grow-word-spec : {M : Type 1} → statement M
-grow-word-spec =
+pub grow_word_spec : {M : Type 1} → statement M
+grow_word_spec =
     tie.close
     (tie.spec
     enum_told

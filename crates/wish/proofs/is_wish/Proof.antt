@@ -27,7 +27,7 @@ returns c =
     let a = (start c.before).args in
     wish-open a.scan a.numbers.now c.before.before.first_of.ensures.0 (sym c.before.is-complete.ensures ∙ not-true _ c.if1.true)
 
-add-if2 : tie.Need-overflow-add-if2
+add-if2 : tie.Need-overflow_add-if2
 add-if2 c = search rules
 
 returns-2 : tie.Need-returns-2
@@ -36,10 +36,10 @@ returns-2 c =
     let a = (start word.before).args in
     wish-few a.scan a.numbers.now word.before.before.first_of.ensures.0 (whole word) c.if2.true
 
-add-if3 : tie.Need-overflow-add-if3
+add-if3 : tie.Need-overflow_add-if3
 add-if3 c = search rules
 
-mul-if3 : tie.Need-overflow-mul-if3
+mul-if3 : tie.Need-overflow_mul-if3
 mul-if3 c = search rules
 
 shared-slice-read-if3 : tie.Need-shared-slice-read-if3
@@ -52,10 +52,10 @@ returns-3 c =
     let a = (start word.before).args in
     wish-rate a.scan a.numbers.now word.before.before.first_of.ensures.0 (whole word) numbers.if2.false c.if3.true
 
-add-result : tie.Need-overflow-add-result
+add-result : tie.Need-overflow_add-result
 add-result c = search rules
 
-mul-result : tie.Need-overflow-mul-result
+mul-result : tie.Need-overflow_mul-result
 mul-result c = search rules
 
 shared-slice-read-result : tie.Need-shared-slice-read-result
@@ -69,8 +69,8 @@ returns-4 c =
     let a = (start word.before).args in
     wish-flag a.scan a.numbers.now word.before.before.first_of.ensures.0 (whole word) numbers.if2.false rate.if3.false
 
-pub is-wish-spec : {M : Type 1} → statement M
-is-wish-spec =
+pub is_wish_spec : {M : Type 1} → statement M
+is_wish_spec =
     tie.close
     (tie.spec
     first-of-requires

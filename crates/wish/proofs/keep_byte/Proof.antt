@@ -21,22 +21,22 @@ returns-2 c = keep-no-low _ _ _ (no-hex c.before.before.before.before.before.arg
 returns-3 : tie.Need-returns-3
 returns-3 c = keep-full _ _ _ c.if3.true (search rules)
 
-mul-numbers : tie.Need-overflow-mul-numbers
+mul-numbers : tie.Need-overflow_mul-numbers
 mul-numbers c = search rules
 
-add-numbers : tie.Need-overflow-add-numbers
+add-numbers : tie.Need-overflow_add-numbers
 add-numbers c = search rules
 
-add-numbers-2 : tie.Need-overflow-add-numbers-2
+add-numbers-2 : tie.Need-overflow_add-numbers-2
 add-numbers-2 c = search rules
 
-mul-numbers-2 : tie.Need-overflow-mul-numbers-2
+mul-numbers-2 : tie.Need-overflow_mul-numbers-2
 mul-numbers-2 c = search rules
 
 slice-write-numbers : tie.Need-slice-write-numbers
 slice-write-numbers c = search rules
 
-add-result : tie.Need-overflow-add-result
+add-result : tie.Need-overflow_add-result
 add-result c = search rules
 
 same_length : tie.Need-same-length
@@ -50,8 +50,8 @@ returns-4 c =
     let low = c.before.if2.false in
     keep_one _ _ _ digit.before.high_digit.ensures (is-hex b v low) (hex-is b v low) c.before.before.if1.false low c.if3.false (search rules)
 
-pub keep-byte-spec : {M : Type 1} → statement M
-keep-byte-spec =
+pub keep_byte_spec : {M : Type 1} → statement M
+keep_byte_spec =
     tie.close
     (tie.spec
     high-digit-requires

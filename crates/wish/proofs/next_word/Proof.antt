@@ -23,5 +23,5 @@ returns-2 : tie.Need-returns-2
 unfolding next_word
 returns-2 c = rw (no-separator c.before.before.before.args.b c.before.before.if1.false c.before.if2.false) c.grow-word.ensures
 
-pub next-word-spec : {M : Type 1} → statement M
-next-word-spec = tie.close (tie.spec shut-word-requires returns grow-word-requires returns-2)
+pub next_word_spec : {M : Type 1} → statement M
+next_word_spec = tie.close (tie.spec shut-word-requires returns grow-word-requires returns-2)

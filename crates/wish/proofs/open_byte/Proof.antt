@@ -14,5 +14,5 @@ returns c = let v = c.before.hex-value.ensures in rw (is-hex _ v c.if1.true, ←
 returns-2 : tie.Need-returns-2
 returns-2 c = rw (no-hex _ c.before.hex-value.ensures c.if1.false)
 
-pub open-byte-spec : {M : Type 1} → statement M
-open-byte-spec = tie.close (tie.spec hex-value-requires returns returns-2)
+pub open_byte_spec : {M : Type 1} → statement M
+open_byte_spec = tie.close (tie.spec hex-value-requires returns returns-2)

@@ -21,22 +21,22 @@ loop-holds : tie.Need-loop-init invariant-loop decreases-loop
 unfolding blank
 loop-holds c = (search rules, filled_none _ _)
 
-add-payload : tie.Need-overflow-add-payload invariant-loop decreases-loop
+add-payload : tie.Need-overflow_add-payload invariant-loop decreases-loop
 add-payload c = search rules
 
-mul-payload : tie.Need-overflow-mul-payload invariant-loop decreases-loop
+mul-payload : tie.Need-overflow_mul-payload invariant-loop decreases-loop
 mul-payload c = search rules
 
 shared-slice-read-payload : tie.Need-shared-slice-read-payload invariant-loop decreases-loop
 shared-slice-read-payload c = search rules
 
-cast-payload : tie.Need-overflow-cast-payload invariant-loop decreases-loop
+cast-payload : tie.Need-overflow_cast-payload invariant-loop decreases-loop
 cast-payload c = search rules
 
 array-write-payload : tie.Need-array-write-payload invariant-loop decreases-loop
 array-write-payload c = search rules
 
-add-i : tie.Need-overflow-add-i invariant-loop decreases-loop
+add-i : tie.Need-overflow_add-i invariant-loop decreases-loop
 add-i c = search rules
 
 loop-less : tie.Need-loop-smaller invariant-loop decreases-loop
@@ -51,8 +51,8 @@ loop-again c =
 returns : tie.Need-returns invariant-loop decreases-loop
 returns c = filled-end c.before.loop.invariant.1 (omega arith)
 
-pub payload-of-spec : {M : Type 1} → statement M
-payload-of-spec =
+pub payload_of_spec : {M : Type 1} → statement M
+payload_of_spec =
     tie.close
     (tie.spec
     invariant-loop

@@ -28,7 +28,7 @@ loop-holds : tie.Need-loop-init invariant-loop decreases-loop
 unfolding flat_map
 loop-holds c = (search rules, search rules, search rules, put-none _ _ (search rules))
 
-mul-wide16 : tie.Need-overflow-mul-wide16 invariant-loop decreases-loop
+mul-wide16 : tie.Need-overflow_mul-wide16 invariant-loop decreases-loop
 mul-wide16 c = search rules
 
 shared-slice-read-wide16 : tie.Need-shared-slice-read-wide16 invariant-loop decreases-loop
@@ -40,7 +40,7 @@ wide16-requires c κs = search rules
 put-field-requires : tie.Need-put-field-requires invariant-loop decreases-loop
 put-field-requires c κs = search rules
 
-add-i : tie.Need-overflow-add-i invariant-loop decreases-loop
+add-i : tie.Need-overflow_add-i invariant-loop decreases-loop
 add-i c = search rules
 
 loop-less : tie.Need-loop-smaller invariant-loop decreases-loop
@@ -62,8 +62,8 @@ returns : tie.Need-returns invariant-loop decreases-loop
 returns c =
     (rw (take_all c.before.loop.i c.before.before.before.before.args.symbols.now (search rules)) at c.before.loop.invariant.3, search rules)
 
-pub put-fields-spec : {M : Type 1} → statement M
-put-fields-spec =
+pub put_fields_spec : {M : Type 1} → statement M
+put_fields_spec =
     tie.close
     (tie.spec
     invariant-loop

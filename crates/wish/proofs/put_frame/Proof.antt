@@ -61,8 +61,8 @@ returns c =
       omega (arith, decimal-length sf.before.wide.result, front.put_front.ensures.1),
     )
 
-pub put-frame-spec : {M : Type 1} → statement M
-put-frame-spec =
+pub put_frame_spec : {M : Type 1} → statement M
+put_frame_spec =
     tie.close
     (tie.spec
     put-front-requires

@@ -51,8 +51,8 @@ returns-2 c =
       search rules,
     )
 
-pub put-front-spec : {M : Type 1} → statement M
-put-front-spec =
+pub put_front_spec : {M : Type 1} → statement M
+put_front_spec =
     tie.close
     (tie.spec
     enum_told

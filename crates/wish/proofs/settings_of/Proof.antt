@@ -8,7 +8,7 @@ use Rattle.wish.proofs.settings_of.Tie as tie
 first-of-requires : tie.Need-first-of-requires
 first-of-requires c κs = search rules
 
-mul-narrow : tie.Need-overflow-mul-narrow
+mul-narrow : tie.Need-overflow_mul-narrow
 mul-narrow c = search rules
 
 shared-slice-read-narrow : tie.Need-shared-slice-read-narrow
@@ -17,19 +17,19 @@ shared-slice-read-narrow c = search rules
 narrow-requires : tie.Need-narrow-requires
 narrow-requires c κs = search rules
 
-add_low : tie.Need-overflow-add-low
+add_low : tie.Need-overflow_add-low
 add_low c = search rules
 
-mul_low : tie.Need-overflow-mul-low
+mul_low : tie.Need-overflow_mul-low
 mul_low c = search rules
 
 shared-slice-read-low : tie.Need-shared-slice-read-low
 shared-slice-read-low c = search rules
 
-add-narrow : tie.Need-overflow-add-narrow
+add-narrow : tie.Need-overflow_add-narrow
 add-narrow c = search rules
 
-mul-narrow-2 : tie.Need-overflow-mul-narrow-2
+mul-narrow-2 : tie.Need-overflow_mul-narrow-2
 mul-narrow-2 c = search rules
 
 shared-slice-read-narrow-2 : tie.Need-shared-slice-read-narrow-2
@@ -38,10 +38,10 @@ shared-slice-read-narrow-2 c = search rules
 narrow-requires-2 : tie.Need-narrow-requires-2
 narrow-requires-2 c κs = search rules
 
-add-checked : tie.Need-overflow-add-checked
+add-checked : tie.Need-overflow_add-checked
 add-checked c = search rules
 
-mul-checked : tie.Need-overflow-mul-checked
+mul-checked : tie.Need-overflow_mul-checked
 mul-checked c = search rules
 
 shared-slice-read-checked : tie.Need-shared-slice-read-checked
@@ -64,8 +64,8 @@ returns c =
     let a = first.before.before.args in
     settings-read a.agreed a.numbers.now first.first_of.ensures.0 sf.narrow.ensures cr.narrow2.ensures c.before.wide16.ensures c.kind-of.ensures
 
-pub settings-of-spec : {M : Type 1} → statement M
-settings-of-spec =
+pub settings_of_spec : {M : Type 1} → statement M
+settings_of_spec =
     tie.close
     (tie.spec
     first-of-requires

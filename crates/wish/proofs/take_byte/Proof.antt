@@ -8,7 +8,7 @@ use Rattle.wish.proofs.take_byte.Tie as tie
 first-of-requires : tie.Need-first-of-requires
 first-of-requires c κs = search rules
 
-add-if1 : tie.Need-overflow-add-if1
+add-if1 : tie.Need-overflow_add-if1
 add-if1 c = search rules
 
 take-byte-requires : tie.Need-take-byte-requires
@@ -35,8 +35,8 @@ returns-2 c =
     let first = test.before.before in
     rw (step-worded _ first.before.before.before.before.requires (rw first.first_of.ensures.0 at test.if1.false)) c.before.before.take-payload.ensures
 
-pub take-byte-spec : {M : Type 1} → statement M
-take-byte-spec =
+pub take_byte_spec : {M : Type 1} → statement M
+take_byte_spec =
     tie.close
     (tie.spec
     first-of-requires

@@ -19,5 +19,5 @@ returns c =
     let keep = c.before.before.before in
     holds-worded _ keep.before.before.before.before.requires c.next_word.ensures keep.keep-byte.ensures
 
-pub take-payload-spec : {M : Type 1} → statement M
-take-payload-spec = tie.close (tie.spec keep-byte-requires next-word-requires same_length returns)
+pub take_payload_spec : {M : Type 1} → statement M
+take_payload_spec = tie.close (tie.spec keep-byte-requires next-word-requires same_length returns)

@@ -13,7 +13,7 @@ fault-requires c κs = search rules
 returns : tie.Need-returns
 returns c = no_index _ _ _ _ c.before.fault.ensures c.if1.true
 
-add-p1 : tie.Need-overflow-add-p1
+add-p1 : tie.Need-overflow_add-p1
 add-p1 c = omega (arith, (fault-there _ _ _ (sym c.before.fault.ensures ∙ c.if1.false)).0)
 
 fault-requires-2 : tie.Need-fault-requires-2
@@ -24,7 +24,7 @@ returns-2 c =
     let index = c.before.before in
     no-cr _ _ _ (sym index.before.fault.ensures ∙ index.if1.false) _ c.before.fault2.ensures c.if2.true
 
-add-p2 : tie.Need-overflow-add-p2
+add-p2 : tie.Need-overflow_add-p2
 add-p2 c = omega (arith, (fault-there _ _ _ (sym c.before.fault2.ensures ∙ c.if2.false)).0)
 
 fault-requires-3 : tie.Need-fault-requires-3
@@ -36,7 +36,7 @@ returns-3 c =
     let index = cr.before.before in
     no_flag _ _ _ (sym index.before.fault.ensures ∙ index.if1.false) (sym cr.before.fault2.ensures ∙ cr.if2.false) _ c.before.fault3.ensures c.if3.true
 
-add-p3 : tie.Need-overflow-add-p3
+add-p3 : tie.Need-overflow_add-p3
 add-p3 c = omega (arith, (fault-there _ _ _ (sym c.before.fault3.ensures ∙ c.if3.false)).0)
 
 fault-requires-4 : tie.Need-fault-requires-4
@@ -49,7 +49,7 @@ returns-4 c =
     let index = cr.before.before in
     no-low _ _ _ (sym index.before.fault.ensures ∙ index.if1.false) (sym cr.before.fault2.ensures ∙ cr.if2.false) (sym flag.before.fault3.ensures ∙ flag.if3.false) _ c.before.fault4.ensures c.if4.true
 
-add-p4 : tie.Need-overflow-add-p4
+add-p4 : tie.Need-overflow_add-p4
 add-p4 c = omega (arith, (fault-there _ _ _ (sym c.before.fault4.ensures ∙ c.if4.false)).0)
 
 fault-requires-5 : tie.Need-fault-requires-5
@@ -63,7 +63,7 @@ returns-5 c =
     let index = cr.before.before in
     no-high _ _ _ (sym index.before.fault.ensures ∙ index.if1.false) (sym cr.before.fault2.ensures ∙ cr.if2.false) (sym flag.before.fault3.ensures ∙ flag.if3.false) (sym low.before.fault4.ensures ∙ low.if4.false) _ c.before.fault5.ensures c.if5.true
 
-add-p5 : tie.Need-overflow-add-p5
+add-p5 : tie.Need-overflow_add-p5
 add-p5 c = omega (arith, (fault-there _ _ _ (sym c.before.fault5.ensures ∙ c.if5.false)).0)
 
 fault-requires-6 : tie.Need-fault-requires-6
@@ -78,7 +78,7 @@ returns-6 c =
     let index = cr.before.before in
     no_length _ _ _ (sym index.before.fault.ensures ∙ index.if1.false) (sym cr.before.fault2.ensures ∙ cr.if2.false) (sym flag.before.fault3.ensures ∙ flag.if3.false) (sym low.before.fault4.ensures ∙ low.if4.false) (sym high.before.fault5.ensures ∙ high.if5.false) _ c.before.fault6.ensures c.if6.true
 
-add_start : tie.Need-overflow-add-start
+add_start : tie.Need-overflow_add-start
 add_start c = omega (arith, (fault-there _ _ _ (sym c.before.fault6.ensures ∙ c.if6.false)).0)
 
 byte-at-requires : tie.Need-byte-at-requires
@@ -87,7 +87,7 @@ byte-at-requires c κs = search rules
 wide-requires : tie.Need-wide-requires
 wide-requires c κs = search rules
 
-sub-if7 : tie.Need-overflow-sub-if7
+sub-if7 : tie.Need-overflow_sub-if7
 sub-if7 c = omega (arith, (fault-there _ _ _ (sym c.before.before.before.fault6.ensures ∙ c.before.before.if6.false)).0)
 
 returns-7 : tie.Need-returns-7
@@ -102,7 +102,7 @@ returns-7 c =
     no_payload _ _ _ (sym index.before.fault.ensures ∙ index.if1.false) (sym cr.before.fault2.ensures ∙ cr.if2.false) (sym flag.before.fault3.ensures ∙ flag.if3.false) (sym low.before.fault4.ensures ∙ low.if4.false) (sym high.before.fault5.ensures ∙ high.if5.false) (sym length.before.fault6.ensures ∙ length.if6.false) (λ i. (index.before.before.shared-slice-known.given i).fits)
     (rw (← read.byte_at.ensures) (omega (arith, (fault-there _ _ _ (sym length.before.fault6.ensures ∙ length.if6.false)).0)))
 
-add-end : tie.Need-overflow-add-end
+add-end : tie.Need-overflow_add-end
 add-end c = omega (arith, (fault-there _ _ _ (sym c.before.before.before.before.fault6.ensures ∙ c.before.before.before.if6.false)).0, c.if7.false)
 
 byte-at-requires-2 : tie.Need-byte-at-requires-2
@@ -147,8 +147,8 @@ returns-8 c =
     (is-frame _ _ _ (sym index.before.fault.ensures ∙ index.if1.false) (sym cr.before.fault2.ensures ∙ cr.if2.false) (sym flag.before.fault3.ensures ∙ flag.if3.false) (sym low.before.fault4.ensures ∙ low.if4.false) (sym high.before.fault5.ensures ∙ high.if5.false) (sym length.before.fault6.ensures ∙ length.if6.false) (λ i. (index.before.before.shared-slice-known.given i).fits)
     (rw (← read.byte_at.ensures) (omega (arith, (fault-there _ _ _ (sym length.before.fault6.ensures ∙ length.if6.false)).0, room.if7.false))))
 
-pub frame-at-spec : {M : Type 1} → statement M
-frame-at-spec =
+pub frame_at_spec : {M : Type 1} → statement M
+frame_at_spec =
     tie.close
     (tie.spec
     fault-requires

@@ -21,6 +21,6 @@ returns c = seen-on _ _ _ _ _ _ _ (sym c.before.before.before.frame_at.ensures �
 returns-2 : tie.Need-returns-2
 returns-2 c = seen-stop _ _ _ (sym c.before.before.before.frame_at.ensures ∙ c.before.number.given.1)
 
-pub frame-end-spec : {M : Type 1} → statement M
-frame-end-spec =
+pub frame_end_spec : {M : Type 1} → statement M
+frame_end_spec =
     tie.close (tie.spec frame-at-requires enum-known-end enum-known-number returns returns-2)

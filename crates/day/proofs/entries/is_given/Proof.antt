@@ -26,7 +26,7 @@ same-pair-requires c κs = search rules
 or-requires : tie.Need-or-requires invariant-loop decreases-loop
 or-requires c κs = search rules
 
-add-k : tie.Need-overflow-add-k invariant-loop decreases-loop
+add-k : tie.Need-overflow_add-k invariant-loop decreases-loop
 add-k c = search rules
 
 loop-less : tie.Need-loop-smaller invariant-loop decreases-loop
@@ -38,8 +38,8 @@ loop-again c = (search rules, given-next _ _ _ _ _ _ _ c.before.before.before.lo
 returns : tie.Need-returns invariant-loop decreases-loop
 returns c = let l = c.before.loop in let e : l.k ≡ c.before.before.before.args.j = omega arith in rw e at l.invariant.1
 
-pub is-given-spec : {M : Type 1} → statement M
-is-given-spec =
+pub is_given_spec : {M : Type 1} → statement M
+is_given_spec =
     tie.close
     (tie.spec
     invariant-loop

@@ -14,7 +14,7 @@ fault-requires c κs = search rules
 returns : tie.Need-returns
 returns c = no_index _ _ _ _ c.before.fault.ensures c.if1.true
 
-add-p1 : tie.Need-overflow-add-p1
+add-p1 : tie.Need-overflow_add-p1
 add-p1 c = omega (arith, (fault-there _ _ _ (sym c.before.fault.ensures ∙ c.if1.false)).0)
 
 number-fault-requires : tie.Need-number-fault-requires
@@ -25,7 +25,7 @@ returns-2 c =
     let index = c.before.before in
     no_number _ _ _ (sym index.before.fault.ensures ∙ index.if1.false) _ c.before.number-fault.ensures c.if2.true
 
-add-p2 : tie.Need-overflow-add-p2
+add-p2 : tie.Need-overflow_add-p2
 add-p2 c = omega (arith, (fault-there _ _ _ (sym c.before.number-fault.ensures ∙ c.if2.false)).0)
 
 fault-requires-2 : tie.Need-fault-requires-2
@@ -37,7 +37,7 @@ returns-3 c =
     let index = number.before.before in
     no-low _ _ _ (sym index.before.fault.ensures ∙ index.if1.false) (sym number.before.number-fault.ensures ∙ number.if2.false) _ c.before.fault2.ensures c.if3.true
 
-add-p3 : tie.Need-overflow-add-p3
+add-p3 : tie.Need-overflow_add-p3
 add-p3 c = omega (arith, (fault-there _ _ _ (sym c.before.fault2.ensures ∙ c.if3.false)).0)
 
 fault-requires-3 : tie.Need-fault-requires-3
@@ -50,7 +50,7 @@ returns-4 c =
     let index = number.before.before in
     no-high _ _ _ (sym index.before.fault.ensures ∙ index.if1.false) (sym number.before.number-fault.ensures ∙ number.if2.false) (sym low.before.fault2.ensures ∙ low.if3.false) _ c.before.fault3.ensures c.if4.true
 
-add-t12 : tie.Need-overflow-add-t12
+add-t12 : tie.Need-overflow_add-t12
 add-t12 c = omega (arith, (fault-there _ _ _ (sym c.before.fault3.ensures ∙ c.if4.false)).0)
 
 returns-5 : tie.Need-returns-5
@@ -61,8 +61,8 @@ returns-5 c =
     let index = number.before.before in
     is-refused _ _ _ (sym index.before.fault.ensures ∙ index.if1.false) (sym number.before.number-fault.ensures ∙ number.if2.false) (sym low.before.fault2.ensures ∙ low.if3.false) (sym high.before.fault3.ensures ∙ high.if4.false)
 
-pub refused-end-spec : {M : Type 1} → statement M
-refused-end-spec =
+pub refused_end_spec : {M : Type 1} → statement M
+refused_end_spec =
     tie.close
     (tie.spec
     fault-requires

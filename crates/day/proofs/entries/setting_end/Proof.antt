@@ -14,7 +14,7 @@ fault-requires c κs = search rules
 returns : tie.Need-returns
 returns c = no-sf _ _ _ c.before.fault.ensures c.if1.true
 
-add-p1 : tie.Need-overflow-add-p1
+add-p1 : tie.Need-overflow_add-p1
 add-p1 c = omega (arith, (fault-there _ _ _ (sym c.before.fault.ensures ∙ c.if1.false)).0)
 
 fault-requires-2 : tie.Need-fault-requires-2
@@ -23,7 +23,7 @@ fault-requires-2 c κs = search rules
 returns-2 : tie.Need-returns-2
 returns-2 c = let sf = c.before.before in no_flag _ _ (sym sf.before.fault.ensures ∙ sf.if1.false) _ c.before.fault2.ensures c.if2.true
 
-add-end : tie.Need-overflow-add-end
+add-end : tie.Need-overflow_add-end
 add-end c = omega (arith, (fault-there _ _ _ (sym c.before.fault2.ensures ∙ c.if2.false)).0)
 
 settings-before-requires : tie.Need-settings-before-requires
@@ -56,8 +56,8 @@ returns-4 c =
     c.before.before.before.byte_at.ensures c.before.before.byte-at2.ensures
     (sym c.if3.false ∙ among _ _ _ _ _ _ c.before.before.before.before.settings-before.ensures c.before.is-given.ensures)
 
-pub setting-end-spec : {M : Type 1} → statement M
-setting-end-spec =
+pub setting_end_spec : {M : Type 1} → statement M
+setting_end_spec =
     tie.close
     (tie.spec
     fault-requires

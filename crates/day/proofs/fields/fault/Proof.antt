@@ -24,5 +24,5 @@ returns c =
     let fine = rw (c.before.before.wide.ensures, c.before.before.before.byte_at.ensures) at c.before.within.ensures in
     c.fault-by.ensures ∙ rw fine
 
-pub fault-spec : {M : Type 1} → statement M
-fault-spec = tie.close (tie.spec byte-at-requires wide-requires within-requires fault-by-requires returns)
+pub fault_spec : {M : Type 1} → statement M
+fault_spec = tie.close (tie.spec byte-at-requires wide-requires within-requires fault-by-requires returns)

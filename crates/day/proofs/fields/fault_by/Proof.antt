@@ -13,5 +13,5 @@ returns-2 c = rw (lt-ltb _ _ c.before.if1.false, c.if2.true)
 returns-3 : tie.Need-returns-3
 returns-3 c = rw (lt-ltb _ _ c.before.if1.false, c.if2.false)
 
-pub fault-by-spec : {M : Type 1} → statement M
-fault-by-spec = tie.close (tie.spec returns returns-2 returns-3)
+pub fault_by_spec : {M : Type 1} → statement M
+fault_by_spec = tie.close (tie.spec returns returns-2 returns-3)

@@ -17,5 +17,5 @@ or-requires c κs = search rules
 returns : tie.Need-returns
 returns c = c.or.ensures ∙ rw (c.before.before.within.ensures, c.before.within2.ensures)
 
-pub is-number-spec : {M : Type 1} → statement M
-is-number-spec = tie.close (tie.spec within-requires within-requires-2 or-requires returns)
+pub is_number_spec : {M : Type 1} → statement M
+is_number_spec = tie.close (tie.spec within-requires within-requires-2 or-requires returns)

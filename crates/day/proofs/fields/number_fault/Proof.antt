@@ -24,5 +24,5 @@ returns c =
     let fine = rw (c.before.before.wide.ensures, c.before.before.before.byte_at.ensures) at c.before.is-number.ensures in
     c.fault-by.ensures ∙ rw fine
 
-pub number-fault-spec : {M : Type 1} → statement M
-number-fault-spec = tie.close (tie.spec byte-at-requires wide-requires is-number-requires fault-by-requires returns)
+pub number_fault_spec : {M : Type 1} → statement M
+number_fault_spec = tie.close (tie.spec byte-at-requires wide-requires is-number-requires fault-by-requires returns)

@@ -20,7 +20,7 @@ byte-at-requires c κs = search rules
 wide-requires : tie.Need-wide-requires
 wide-requires c κs = search rules
 
-add-t7 : tie.Need-overflow-add-t7
+add-t7 : tie.Need-overflow_add-t7
 add-t7 c = let read = c.before.before in omega (arith, (fault-there _ _ _ (sym read.before.fault.ensures ∙ read.if1.false)).0)
 
 returns-2 : tie.Need-returns-2
@@ -28,5 +28,5 @@ returns-2 c =
     let read = c.before.before in
     rw (c.wide.ensures, c.before.byte_at.ensures) (count-one _ _ (sym read.before.fault.ensures ∙ read.if1.false))
 
-pub count-at-spec : {M : Type 1} → statement M
-count-at-spec = tie.close (tie.spec fault-requires returns byte-at-requires wide-requires add-t7 returns-2)
+pub count_at_spec : {M : Type 1} → statement M
+count_at_spec = tie.close (tie.spec fault-requires returns byte-at-requires wide-requires add-t7 returns-2)

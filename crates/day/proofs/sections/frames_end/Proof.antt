@@ -36,7 +36,7 @@ returns c = let l = c.before.before.before.before.loop in
     let e = c.enum_told.given.1 in
     e ∙ section-stop _ (frame_same _) _ _ l.i l.next _ _ (search rules) (sym e ∙ c.before.before.frame-end.ensures) ∙ sym l.invariant.1
 
-add-i : tie.Need-overflow-add-i invariant-loop decreases-loop
+add-i : tie.Need-overflow_add-i invariant-loop decreases-loop
 add-i c = search rules
 
 loop-less : tie.Need-loop-smaller invariant-loop decreases-loop
@@ -50,8 +50,8 @@ returns-2 : tie.Need-returns-2 invariant-loop decreases-loop
 returns-2 c = let l = c.before.loop in
     section-end _ (frame_same _) _ _ l.i l.next (search rules) ∙ sym l.invariant.1
 
-pub frames-end-spec : {M : Type 1} → statement M
-frames-end-spec =
+pub frames_end_spec : {M : Type 1} → statement M
+frames_end_spec =
     tie.close
     (tie.spec
     invariant-loop

@@ -28,8 +28,8 @@ read-to-requires c κs = search rules
 returns-2 : tie.Need-returns-2
 returns-2 c = part-whole _ (frame-lawful _) _ _ _ _ _ _ _ _ (counted-came _ _ _ (sym c.before.before.before.part.given.1 ∙ c.before.before.before.before.before.count_at.ensures)) c.before.frames-end.ensures c.read-to.ensures
 
-pub frames-part-spec : {M : Type 1} → statement M
-frames-part-spec =
+pub frames_part_spec : {M : Type 1} → statement M
+frames_part_spec =
     tie.close
     (tie.spec
     count-at-requires

@@ -16,5 +16,5 @@ returns c = rw c.before.went.given.1
 returns-2 : tie.Need-returns-2
 returns-2 c = rw c.before.went2.given.1
 
-pub read-to-spec : {M : Type 1} → statement M
-read-to-spec = tie.close (tie.spec enum-known-went enum-known-went-2 returns returns-2)
+pub read_to_spec : {M : Type 1} → statement M
+read_to_spec = tie.close (tie.spec enum-known-went enum-known-went-2 returns returns-2)

@@ -37,7 +37,7 @@ returns c = let l = c.before.before.before.before.loop in
     let e = c.enum_told.given.1 in
     e ∙ section-stop _ (refused-same _) _ _ l.i l.next _ _ (search rules) (sym e ∙ c.before.before.refused-end.ensures) ∙ sym l.invariant.1
 
-add-i : tie.Need-overflow-add-i invariant-loop decreases-loop
+add-i : tie.Need-overflow_add-i invariant-loop decreases-loop
 add-i c = search rules
 
 loop-less : tie.Need-loop-smaller invariant-loop decreases-loop
@@ -51,8 +51,8 @@ returns-2 : tie.Need-returns-2 invariant-loop decreases-loop
 returns-2 c = let l = c.before.loop in
     section-end _ (refused-same _) _ _ l.i l.next (search rules) ∙ sym l.invariant.1
 
-pub refused-frames-end-spec : {M : Type 1} → statement M
-refused-frames-end-spec =
+pub refused_frames_end_spec : {M : Type 1} → statement M
+refused_frames_end_spec =
     tie.close
     (tie.spec
     invariant-loop

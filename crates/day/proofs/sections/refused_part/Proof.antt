@@ -28,8 +28,8 @@ read-to-requires c κs = search rules
 returns-2 : tie.Need-returns-2
 returns-2 c = part-whole _ (refused_frame-lawful _) _ _ _ _ _ _ _ _ (counted-came _ _ _ (sym c.before.before.before.part.given.1 ∙ c.before.before.before.before.before.count_at.ensures)) c.before.refused-frames-end.ensures c.read-to.ensures
 
-pub refused-part-spec : {M : Type 1} → statement M
-refused-part-spec =
+pub refused_part_spec : {M : Type 1} → statement M
+refused_part_spec =
     tie.close
     (tie.spec
     count-at-requires

@@ -21,10 +21,10 @@ decreases-loop bytes count j₀ j = count - j
 loop-holds : tie.Need-loop-init invariant-loop decreases-loop
 loop-holds c = (search rules, settings-start _ _)
 
-mul-setting-end : tie.Need-overflow-mul-setting-end invariant-loop decreases-loop
+mul-setting-end : tie.Need-overflow_mul-setting-end invariant-loop decreases-loop
 mul-setting-end c = search rules
 
-add-setting-end : tie.Need-overflow-add-setting-end invariant-loop decreases-loop
+add-setting-end : tie.Need-overflow_add-setting-end invariant-loop decreases-loop
 add-setting-end c = search rules
 
 setting-end-requires : tie.Need-setting-end-requires invariant-loop decreases-loop
@@ -43,7 +43,7 @@ returns c =
     let e = c.enum-told2.given.1 in
     e ∙ settings-stop _ _ l.j _ _ (search rules) (sym e ∙ step.setting-end.ensures) ∙ sym l.invariant.1
 
-add-j : tie.Need-overflow-add-j invariant-loop decreases-loop
+add-j : tie.Need-overflow_add-j invariant-loop decreases-loop
 add-j c = search rules
 
 loop-less : tie.Need-loop-smaller invariant-loop decreases-loop
@@ -55,17 +55,17 @@ loop-again c =
     let l = step.before.before.loop in
     (search rules, l.invariant.1 ∙ settings-more _ _ l.j _ (search rules) (sym c.enum_told.given.1 ∙ step.setting-end.ensures))
 
-mul-t8 : tie.Need-overflow-mul-t8 invariant-loop decreases-loop
+mul-t8 : tie.Need-overflow_mul-t8 invariant-loop decreases-loop
 mul-t8 c = search rules
 
-add-t9 : tie.Need-overflow-add-t9 invariant-loop decreases-loop
+add-t9 : tie.Need-overflow_add-t9 invariant-loop decreases-loop
 add-t9 c = search rules
 
 returns-2 : tie.Need-returns-2 invariant-loop decreases-loop
 returns-2 c = let l = c.before.loop in settings-end _ _ l.j (omega arith) ∙ sym l.invariant.1
 
-pub settings-end-spec : {M : Type 1} → statement M
-settings-end-spec =
+pub settings_end_spec : {M : Type 1} → statement M
+settings_end_spec =
     tie.close
     (tie.spec
     invariant-loop

@@ -30,8 +30,8 @@ returns-2 c =
     let count = sym c.before.before.before.part.given.1 ∙ c.before.before.before.before.before.count_at.ensures in
     part-whole _ setting-lawful _ _ _ _ _ _ _ _ (rw (counted-one _ _ _ _ count).1 at (counted-came _ _ _ count)) c.before.settings-end.ensures c.read-to.ensures
 
-pub settings-part-spec : {M : Type 1} → statement M
-settings-part-spec =
+pub settings_part_spec : {M : Type 1} → statement M
+settings_part_spec =
     tie.close
     (tie.spec
     count-at-requires

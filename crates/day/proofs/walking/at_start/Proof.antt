@@ -14,7 +14,7 @@ fault-requires c κs = search rules
 returns : tie.Need-returns
 returns c = no-mark _ _ _ c.before.fault.ensures c.if1.true
 
-add-count-at : tie.Need-overflow-add-count-at
+add-count-at : tie.Need-overflow_add-count-at
 add-count-at c = omega (arith, (fault-there _ _ _ (sym c.before.fault.ensures ∙ c.if1.false)).0)
 
 count-at-requires : tie.Need-count-at-requires
@@ -41,8 +41,8 @@ returns-3 c =
     let mark = known.before.before.before in
     no-settings-count _ _ (sym mark.before.fault.ensures ∙ mark.if1.false) _ _ (sym known.number.given.1 ∙ known.before.before.count_at.ensures)
 
-pub at-start-spec : {M : Type 1} → statement M
-at-start-spec =
+pub at_start_spec : {M : Type 1} → statement M
+at_start_spec =
     tie.close
     (tie.spec
     fault-requires

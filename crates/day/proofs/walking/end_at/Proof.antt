@@ -10,5 +10,5 @@ returns c = at-end _ _ c.if1.true
 returns-2 : tie.Need-returns-2
 returns-2 c = left_over _ _ c.if1.false
 
-pub end-at-spec : {M : Type 1} → statement M
-end-at-spec = tie.close (tie.spec returns returns-2)
+pub end_at_spec : {M : Type 1} → statement M
+end_at_spec = tie.close (tie.spec returns returns-2)

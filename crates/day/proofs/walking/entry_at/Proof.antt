@@ -33,8 +33,8 @@ returns-4 c =
     let first = second.before.before in
     shown-refused _ _ _ first.if1.false second.if2.false third.if3.false c.in-refused.ensures
 
-pub entry-at-spec : {M : Type 1} → statement M
-entry-at-spec =
+pub entry_at_spec : {M : Type 1} → statement M
+entry_at_spec =
     tie.close
     (tie.spec
     at-start-requires

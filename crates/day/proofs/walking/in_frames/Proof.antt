@@ -30,7 +30,7 @@ frame-at-requires c κs = search rules
 enum-known-setting : tie.Need-enum-known-setting
 enum-known-setting c = search rules
 
-sub-t22 : tie.Need-overflow-sub-t22
+sub-t22 : tie.Need-overflow_sub-t22
 sub-t22 c = search rules
 
 enum-known-number-2 : tie.Need-enum-known-number-2
@@ -42,8 +42,8 @@ returns-3 c = let known = c.before in frame_here _ _ _ _ _ (search rules) _ _ _ 
 returns-4 : tie.Need-returns-4
 returns-4 c = let known = c.before in no-frame _ _ _ _ known.before.before.before.if1.false _ _ (sym known.number2.given.1 ∙ known.before.before.frame_at.ensures)
 
-pub in-frames-spec : {M : Type 1} → statement M
-in-frames-spec =
+pub in_frames_spec : {M : Type 1} → statement M
+in_frames_spec =
     tie.close
     (tie.spec
     count-at-requires

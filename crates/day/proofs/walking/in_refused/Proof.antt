@@ -22,19 +22,19 @@ enum-known-end c = search rules
 byte-at-requires : tie.Need-byte-at-requires
 byte-at-requires c κs = search rules
 
-add-byte-at : tie.Need-overflow-add-byte-at
+add-byte-at : tie.Need-overflow_add-byte-at
 add-byte-at c = let end = c.before.before in omega (arith, (came_refused _ _ _ _ (sym end.end.given.1 ∙ end.before.before.refused-end.ensures)).1)
 
 byte-at-requires-2 : tie.Need-byte-at-requires-2
 byte-at-requires-2 c κs = search rules
 
-add-byte-at-2 : tie.Need-overflow-add-byte-at-2
+add-byte-at-2 : tie.Need-overflow_add-byte-at-2
 add-byte-at-2 c = let end = c.before.before.before in omega (arith, (came_refused _ _ _ _ (sym end.end.given.1 ∙ end.before.before.refused-end.ensures)).1)
 
 byte-at-requires-3 : tie.Need-byte-at-requires-3
 byte-at-requires-3 c κs = search rules
 
-add-byte-at-3 : tie.Need-overflow-add-byte-at-3
+add-byte-at-3 : tie.Need-overflow_add-byte-at-3
 add-byte-at-3 c = let end = c.before.before.before.before in omega (arith, (came_refused _ _ _ _ (sym end.end.given.1 ∙ end.before.before.refused-end.ensures)).1)
 
 byte-at-requires-4 : tie.Need-byte-at-requires-4
@@ -43,7 +43,7 @@ byte-at-requires-4 c κs = search rules
 low-first-requires : tie.Need-low-first-requires
 low-first-requires c κs = search rules
 
-sub-t19 : tie.Need-overflow-sub-t19
+sub-t19 : tie.Need-overflow_sub-t19
 sub-t19 c = search rules
 
 enum-known-number : tie.Need-enum-known-number
@@ -65,8 +65,8 @@ returns-2 c =
 returns-3 : tie.Need-returns-3
 returns-3 c = let number = c.before in no-refused _ _ _ _ number.before.before.before.if1.false _ _ (sym number.number.given.1 ∙ number.before.before.refused-end.ensures)
 
-pub in-refused-spec : {M : Type 1} → statement M
-in-refused-spec =
+pub in_refused_spec : {M : Type 1} → statement M
+in_refused_spec =
     tie.close
     (tie.spec
     end-at-requires

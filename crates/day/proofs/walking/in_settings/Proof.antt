@@ -34,13 +34,13 @@ enum-known-end c = search rules
 byte-at-requires : tie.Need-byte-at-requires
 byte-at-requires c κs = search rules
 
-add-byte-at : tie.Need-overflow-add-byte-at
+add-byte-at : tie.Need-overflow_add-byte-at
 add-byte-at c = let end = c.before.before in omega (arith, (came-setting _ _ _ _ (sym end.end.given.1 ∙ end.before.before.setting-end.ensures)).1)
 
 byte-at-requires-2 : tie.Need-byte-at-requires-2
 byte-at-requires-2 c κs = search rules
 
-sub-t20 : tie.Need-overflow-sub-t20
+sub-t20 : tie.Need-overflow_sub-t20
 sub-t20 c = search rules
 
 enum-known-number-2 : tie.Need-enum-known-number-2
@@ -55,8 +55,8 @@ returns-3 c =
 returns-4 : tie.Need-returns-4
 returns-4 c = let known = c.before in no-setting _ _ _ _ _ known.before.before.before.if1.false _ _ (sym known.number2.given.1 ∙ known.before.before.setting-end.ensures)
 
-pub in-settings-spec : {M : Type 1} → statement M
-in-settings-spec =
+pub in_settings_spec : {M : Type 1} → statement M
+in_settings_spec =
     tie.close
     (tie.spec
     count-at-requires

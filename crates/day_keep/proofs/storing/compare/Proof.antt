@@ -57,8 +57,8 @@ same-length-4 c = search rules
 returns-4 : tie.Need-returns-4
 returns-4 c = search rules
 
-pub compare-spec : {M : Type 1} → statement M
-compare-spec =
+pub compare_spec : {M : Type 1} → statement M
+compare_spec =
     tie.close
     (tie.spec
     read-whole-requires

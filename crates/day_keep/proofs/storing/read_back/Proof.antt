@@ -36,8 +36,8 @@ same-length-2 c = search rules
 returns-2 : tie.Need-returns-2
 returns-2 c = search rules
 
-pub read-back-spec : {M : Type 1} → statement M
-read-back-spec =
+pub read_back_spec : {M : Type 1} → statement M
+read_back_spec =
     tie.close
     (tie.spec
     read-whole-requires

@@ -17,5 +17,5 @@ returns c = few-whole _ _ c.if1.true
 returns-2 : tie.Need-returns-2
 returns-2 c = few-cut _ _ c.if1.false
 
-pub few-rows-spec : {M : Type 1} → statement M
-few-rows-spec = tie.close (tie.spec rem-if1 div-result returns returns-2)
+pub few_rows_spec : {M : Type 1} → statement M
+few_rows_spec = tie.close (tie.spec rem-if1 div-result returns returns-2)

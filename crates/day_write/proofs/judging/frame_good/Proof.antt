@@ -6,7 +6,7 @@ use borrow.Author.Rules.{rules}
 use Rattle.day_write.proofs.judging.frame_good.Statement.{statement}
 use Rattle.day_write.proofs.judging.frame_good.Tie as tie
 
-mul_at : tie.Need-overflow-mul-at
+mul_at : tie.Need-overflow_mul-at
 mul_at c = search rules
 
 in-range-requires : tie.Need-in-range-requires
@@ -15,7 +15,7 @@ in-range-requires c κs = search rules
 returns : tie.Need-returns
 returns c = no_index _ _ _ (fails c.before.in-range.ensures c.if1.true)
 
-add-in-range : tie.Need-overflow-add-in-range
+add-in-range : tie.Need-overflow_add-in-range
 add-in-range c = search rules
 
 in-range-requires-2 : tie.Need-in-range-requires-2
@@ -26,7 +26,7 @@ returns-2 c =
     let index = c.before.before in
     no-cr _ _ _ (holds index.before.in-range.ensures index.if1.false) (fails c.before.in-range2.ensures c.if2.true)
 
-add-in-range-2 : tie.Need-overflow-add-in-range-2
+add-in-range-2 : tie.Need-overflow_add-in-range-2
 add-in-range-2 c = search rules
 
 in-range-requires-3 : tie.Need-in-range-requires-3
@@ -39,7 +39,7 @@ returns-3 c =
     no-crc-flag _ _ _ (holds index.before.in-range.ensures index.if1.false) (holds cr.before.in-range2.ensures cr.if2.false)
     (fails c.before.in-range3.ensures c.if3.true)
 
-add-in-range-3 : tie.Need-overflow-add-in-range-3
+add-in-range-3 : tie.Need-overflow_add-in-range-3
 add-in-range-3 c = search rules
 
 in-range-requires-4 : tie.Need-in-range-requires-4
@@ -54,8 +54,8 @@ returns-4 c =
     ∙ is_row _ _ _ (holds index.before.in-range.ensures index.if1.false) (holds cr.before.in-range2.ensures cr.if2.false)
     (holds flag.before.in-range3.ensures flag.if3.false)
 
-pub frame-good-spec : {M : Type 1} → statement M
-frame-good-spec =
+pub frame_good_spec : {M : Type 1} → statement M
+frame_good_spec =
     tie.close
     (tie.spec
     mul_at

@@ -25,7 +25,7 @@ frame-good-requires c κs = search rules
 and-requires : tie.Need-and-requires invariant-loop decreases-loop
 and-requires c κs = search rules
 
-add-i : tie.Need-overflow-add-i invariant-loop decreases-loop
+add-i : tie.Need-overflow_add-i invariant-loop decreases-loop
 add-i c = search rules
 
 loop-less : tie.Need-loop-smaller invariant-loop decreases-loop
@@ -40,8 +40,8 @@ returns c =
     let e : l.i ≡ length c.before.before.before.args.frames.now / 5 = omega arith in
     rw e at l.invariant.1
 
-pub frames-good-spec : {M : Type 1} → statement M
-frames-good-spec =
+pub frames_good_spec : {M : Type 1} → statement M
+frames_good_spec =
     tie.close
     (tie.spec
     invariant-loop

@@ -105,8 +105,8 @@ returns-7 c =
     (λ i. (known.before.shared-slice-known2.given i).fits) (λ i. (known.shared-slice-known3.given i).fits)
     (holds rows.before.frames-good.ensures rows.if6.false)
 
-pub good-spec : {M : Type 1} → statement M
-good-spec =
+pub good_spec : {M : Type 1} → statement M
+good_spec =
     tie.close
     (tie.spec
     few-rows-requires

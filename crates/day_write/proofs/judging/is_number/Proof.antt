@@ -13,5 +13,5 @@ is-number-requires c κs = search rules
 returns : tie.Need-returns
 returns c = rw c.before.wide16.ensures at c.is-number.ensures
 
-pub is-number-spec : {M : Type 1} → statement M
-is-number-spec = tie.close (tie.spec wide16-requires is-number-requires returns)
+pub is_number_spec : {M : Type 1} → statement M
+is_number_spec = tie.close (tie.spec wide16-requires is-number-requires returns)

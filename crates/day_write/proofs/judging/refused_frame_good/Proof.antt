@@ -6,7 +6,7 @@ use borrow.Author.Rules.{rules}
 use Rattle.day_write.proofs.judging.refused_frame_good.Statement.{statement}
 use Rattle.day_write.proofs.judging.refused_frame_good.Tie as tie
 
-mul_at : tie.Need-overflow-mul-at
+mul_at : tie.Need-overflow_mul-at
 mul_at c = search rules
 
 in-range-requires : tie.Need-in-range-requires
@@ -15,10 +15,10 @@ in-range-requires c κs = search rules
 returns : tie.Need-returns
 returns c = refused-no-index _ _ _ (fails c.before.in-range.ensures c.if1.true)
 
-add-is-number : tie.Need-overflow-add-is-number
+add-is-number : tie.Need-overflow_add-is-number
 add-is-number c = search rules
 
-mul-is-number : tie.Need-overflow-mul-is-number
+mul-is-number : tie.Need-overflow_mul-is-number
 mul-is-number c = search rules
 
 shared-slice-read-is-number : tie.Need-shared-slice-read-is-number
@@ -32,8 +32,8 @@ returns-2 c =
     let index = c.before.before in
     c.is-number.ensures ∙ is-refused _ _ _ (holds index.before.in-range.ensures index.if1.false) (c.before.shared-slice-known2.given _).fits
 
-pub refused-frame-good-spec : {M : Type 1} → statement M
-refused-frame-good-spec =
+pub refused_frame_good_spec : {M : Type 1} → statement M
+refused_frame_good_spec =
     tie.close
     (tie.spec
     mul_at

@@ -5,16 +5,16 @@ use borrow.Author.Rules.{rules}
 use Rattle.day_write.proofs.judging.setting_good.Statement.{statement}
 use Rattle.day_write.proofs.judging.setting_good.Tie as tie
 
-mul-sf : tie.Need-overflow-mul-sf
+mul-sf : tie.Need-overflow_mul-sf
 mul-sf c = search rules
 
 shared-slice-read-sf : tie.Need-shared-slice-read-sf
 shared-slice-read-sf c = search rules
 
-mul_low : tie.Need-overflow-mul-low
+mul_low : tie.Need-overflow_mul-low
 mul_low c = search rules
 
-add_low : tie.Need-overflow-add-low
+add_low : tie.Need-overflow_add-low
 add_low c = search rules
 
 shared-slice-read-low : tie.Need-shared-slice-read-low
@@ -52,8 +52,8 @@ returns-3 c =
     is-new _ _ (holds (rw sf.before.before.wide.ensures at sf.before.within.ensures) sf.if1.false)
     (holds (rw flag.before.before.wide2.ensures at flag.before.within2.ensures) flag.if2.false) _ c.is-given.ensures
 
-pub setting-good-spec : {M : Type 1} → statement M
-setting-good-spec =
+pub setting_good_spec : {M : Type 1} → statement M
+setting_good_spec =
     tie.close
     (tie.spec
     mul-sf

@@ -29,7 +29,7 @@ setting-good-requires c κs = search rules
 and-requires : tie.Need-and-requires invariant-loop decreases-loop
 and-requires c κs = search rules
 
-add-i : tie.Need-overflow-add-i invariant-loop decreases-loop
+add-i : tie.Need-overflow_add-i invariant-loop decreases-loop
 add-i c = search rules
 
 loop-less : tie.Need-loop-smaller invariant-loop decreases-loop
@@ -44,8 +44,8 @@ returns c =
     let e : l.i ≡ length c.before.before.before.args.settings.now / 2 = omega arith in
     rw e at l.invariant.1
 
-pub settings-good-spec : {M : Type 1} → statement M
-settings-good-spec =
+pub settings_good_spec : {M : Type 1} → statement M
+settings_good_spec =
     tie.close
     (tie.spec
     invariant-loop

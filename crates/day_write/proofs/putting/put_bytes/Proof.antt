@@ -29,7 +29,7 @@ put-requires c κs =
     let now = c.before.before.before in
     omega (arith, length-take-le now.loop.i now.before.before.before.args.payload.now (search rules))
 
-add-i : tie.Need-overflow-add-i invariant-loop decreases-loop
+add-i : tie.Need-overflow_add-i invariant-loop decreases-loop
 add-i c = search rules
 
 loop-less : tie.Need-loop-smaller invariant-loop decreases-loop
@@ -50,8 +50,8 @@ same_length c = search rules
 returns : tie.Need-returns invariant-loop decreases-loop
 returns c = rw (take_all c.before.loop.i c.before.before.before.before.args.payload.now (search rules)) at c.before.loop.invariant.2
 
-pub put-bytes-spec : {M : Type 1} → statement M
-put-bytes-spec =
+pub put_bytes_spec : {M : Type 1} → statement M
+put_bytes_spec =
     tie.close
     (tie.spec
     invariant-loop

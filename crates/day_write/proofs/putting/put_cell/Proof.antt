@@ -4,7 +4,7 @@ use borrow.Author.Rules.{rules}
 use Rattle.day_write.proofs.putting.put_cell.Statement.{statement}
 use Rattle.day_write.proofs.putting.put_cell.Tie as tie
 
-mul-low-byte : tie.Need-overflow-mul-low-byte
+mul-low-byte : tie.Need-overflow_mul-low-byte
 mul-low-byte c = search rules
 
 shared-slice-read-low-byte : tie.Need-shared-slice-read-low-byte
@@ -22,8 +22,8 @@ same_length c = search rules
 returns : tie.Need-returns
 returns c = rw (← c.before.before.before.low_byte.ensures) c.before.before.put.ensures
 
-pub put-cell-spec : {M : Type 1} → statement M
-put-cell-spec =
+pub put_cell_spec : {M : Type 1} → statement M
+put_cell_spec =
     tie.close
     (tie.spec
     mul-low-byte

@@ -5,7 +5,7 @@ use borrow.Author.Rules.{rules}
 use Rattle.day_write.proofs.putting.put_count.Statement.{statement}
 use Rattle.day_write.proofs.putting.put_count.Tie as tie
 
-cast-put : tie.Need-overflow-cast-put
+cast-put : tie.Need-overflow_cast-put
 cast-put c = search rules
 
 put-requires : tie.Need-put-requires
@@ -18,5 +18,5 @@ returns : tie.Need-returns
 unfolding put_count
 returns c = c.before.before.put.ensures
 
-pub put-count-spec : {M : Type 1} → statement M
-put-count-spec = tie.close (tie.spec cast-put put-requires same_length returns)
+pub put_count_spec : {M : Type 1} → statement M
+put_count_spec = tie.close (tie.spec cast-put put-requires same_length returns)

@@ -47,8 +47,8 @@ returns c =
     (put_on frames.put-frames.ensures
     c.before.before.Put-refused.ensures)))
 
-pub put-file-spec : {M : Type 1} → statement M
-put-file-spec =
+pub put_file_spec : {M : Type 1} → statement M
+put_file_spec =
     tie.close
     (tie.spec
     put-requires

@@ -19,10 +19,10 @@ room c = omega (arith, frame-length c.args.frames.now c.args.payloads.now c.args
 payload-length-requires : tie.Need-payload-length-requires
 payload-length-requires c κs = search rules
 
-add-end : tie.Need-overflow-add-end
+add-end : tie.Need-overflow_add-end
 add-end c = search rules
 
-mul-row : tie.Need-overflow-mul-row
+mul-row : tie.Need-overflow_mul-row
 mul-row c = search rules
 
 put-three-requires : tie.Need-put-three-requires
@@ -31,10 +31,10 @@ put-three-requires c κs =
     let (setting, cr, flag, len) = frame-cells _ _ _ start.requires.0 in
     (omega (arith, start.requires.0.there), setting, cr, flag, omega (arith, room start))
 
-add-put-two : tie.Need-overflow-add-put-two
+add-put-two : tie.Need-overflow_add-put-two
 add-put-two c = search rules
 
-mul-put-two : tie.Need-overflow-mul-put-two
+mul-put-two : tie.Need-overflow_mul-put-two
 mul-put-two c = search rules
 
 shared-slice-read-put-two : tie.Need-shared-slice-read-put-two
@@ -43,7 +43,7 @@ shared-slice-read-put-two c = search rules
 put-two-requires : tie.Need-put-two-requires
 put-two-requires c κs = omega (arith, room c.before.before.before.before.before.before.before.before.before.before)
 
-add-put-cell : tie.Need-overflow-add-put-cell
+add-put-cell : tie.Need-overflow_add-put-cell
 add-put-cell c = search rules
 
 put-cell-requires : tie.Need-put-cell-requires
@@ -52,7 +52,7 @@ put-cell-requires c κs =
     let start = c.before.before.before.before.before.before.before.before.before.before.before.before.before.before in
     (omega (arith, start.requires.0.there), (frame-cells _ _ _ start.requires.0).3, omega (arith, room start))
 
-sub-put-bytes : tie.Need-overflow-sub-put-bytes
+sub-put-bytes : tie.Need-overflow_sub-put-bytes
 sub-put-bytes c = search rules
 
 part-put-bytes-start : tie.Need-slice-bounds-put-bytes-start
@@ -81,8 +81,8 @@ returns c =
     (put_on len.put-cell.ensures
     (rw (end.payload-length.ensures, add-sub_cancel_left) at c.before.before.put-bytes.ensures))))
 
-pub put-frame-spec : {M : Type 1} → statement M
-put-frame-spec =
+pub put_frame_spec : {M : Type 1} → statement M
+put_frame_spec =
     tie.close
     (tie.spec
     payload-length-requires

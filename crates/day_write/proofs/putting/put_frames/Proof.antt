@@ -62,12 +62,12 @@ put-frame-requires c κs =
 payload-length-requires : tie.Need-payload-length-requires invariant-loop decreases-loop
 payload-length-requires c κs = (row_fits c.before.before.before.before).there
 
-add_start : tie.Need-overflow-add-start invariant-loop decreases-loop
+add_start : tie.Need-overflow_add-start invariant-loop decreases-loop
 add_start c =
     let now = c.before.before.before.before.before in
     omega (arith, (row_fits now).whole, now.before.loop.invariant.1, c.payload-length.ensures)
 
-add-i : tie.Need-overflow-add-i invariant-loop decreases-loop
+add-i : tie.Need-overflow_add-i invariant-loop decreases-loop
 add-i c = search rules
 
 loop-less : tie.Need-loop-smaller invariant-loop decreases-loop
@@ -97,8 +97,8 @@ returns c =
     let all : c.before.loop.i ≡ length fs / 5 = search rules in
     rw (section-is (frame 255) (length fs / 5) (frame_row fs ps)) (put_on count.put_count.ensures (rw all at c.before.loop.invariant.2))
 
-pub put-frames-spec : {M : Type 1} → statement M
-put-frames-spec =
+pub put_frames_spec : {M : Type 1} → statement M
+put_frames_spec =
     tie.close
     (tie.spec
     invariant-loop

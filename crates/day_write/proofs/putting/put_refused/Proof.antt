@@ -50,7 +50,7 @@ put-refused-frame-requires c κs =
       omega (arith, section-room (refused_frame 255) (length rs / 3) now.loop.i (refused_row rs) more),
     )
 
-add-i : tie.Need-overflow-add-i invariant-loop decreases-loop
+add-i : tie.Need-overflow_add-i invariant-loop decreases-loop
 add-i c = search rules
 
 loop-less : tie.Need-loop-smaller invariant-loop decreases-loop
@@ -75,8 +75,8 @@ returns c =
     let all : c.before.loop.i ≡ length rs / 3 = search rules in
     rw (section-is (refused_frame 255) (length rs / 3) (refused_row rs)) (put_on count.put_count.ensures (rw all at c.before.loop.invariant.1))
 
-pub put-refused-spec : {M : Type 1} → statement M
-put-refused-spec =
+pub put_refused_spec : {M : Type 1} → statement M
+put_refused_spec =
     tie.close
     (tie.spec
     invariant-loop

@@ -14,7 +14,7 @@ use Rattle.day_write.proofs.putting.put_refused_frame.Tie as tie
 room : (c : tie.Start) → c.args.at + 4 ≤ length c.args.out.now
 room c = omega (arith, refused-length c.args.refused.now c.args.i)
 
-mul-row : tie.Need-overflow-mul-row
+mul-row : tie.Need-overflow_mul-row
 mul-row c = search rules
 
 put-cell-requires : tie.Need-put-cell-requires
@@ -22,7 +22,7 @@ put-cell-requires c κs =
     let start = c.before.before.before in
     (omega (arith, start.requires.0.there), (refused-cells _ _ start.requires.0).0, omega (arith, room start))
 
-add-put-cell : tie.Need-overflow-add-put-cell
+add-put-cell : tie.Need-overflow_add-put-cell
 add-put-cell c = search rules
 
 put-cell-requires-2 : tie.Need-put-cell-requires-2
@@ -30,10 +30,10 @@ put-cell-requires-2 c κs =
     let start = c.before.before.before.before.before.before.before in
     (omega (arith, start.requires.0.there), (refused-cells _ _ start.requires.0).1, omega (arith, room start))
 
-add-put-two : tie.Need-overflow-add-put-two
+add-put-two : tie.Need-overflow_add-put-two
 add-put-two c = search rules
 
-mul-put-two : tie.Need-overflow-mul-put-two
+mul-put-two : tie.Need-overflow_mul-put-two
 mul-put-two c = search rules
 
 shared-slice-read-put-two : tie.Need-shared-slice-read-put-two
@@ -53,8 +53,8 @@ returns c =
     rw (refused-put start.args.refused.now start.args.i)
     (put_on setting.put-cell.ensures (put_on number.put-cell2.ensures c.before.before.put_two.ensures))
 
-pub put-refused-frame-spec : {M : Type 1} → statement M
-put-refused-frame-spec =
+pub put_refused_frame_spec : {M : Type 1} → statement M
+put_refused_frame_spec =
     tie.close
     (tie.spec
     mul-row

@@ -13,7 +13,7 @@ use Rattle.day_write.proofs.putting.put_setting.Tie as tie
 room : (c : tie.Start) → c.args.at + 2 ≤ length c.args.out.now
 room c = omega (arith, setting-length c.args.settings.now c.args.i)
 
-mul-put : tie.Need-overflow-mul-put
+mul-put : tie.Need-overflow_mul-put
 mul-put c = search rules
 
 shared-slice-read-put : tie.Need-shared-slice-read-put
@@ -22,10 +22,10 @@ shared-slice-read-put c = search rules
 put-requires : tie.Need-put-requires
 put-requires c κs = omega (arith, room c.before.before.before.before)
 
-mul-put-2 : tie.Need-overflow-mul-put-2
+mul-put-2 : tie.Need-overflow_mul-put-2
 mul-put-2 c = search rules
 
-add-put : tie.Need-overflow-add-put
+add-put : tie.Need-overflow_add-put
 add-put c = search rules
 
 shared-slice-read-put-2 : tie.Need-shared-slice-read-put-2
@@ -43,8 +43,8 @@ returns c =
     let start = first.before.before.before.before.before in
     rw (setting-put start.args.settings.now start.args.i) (put_on first.put.ensures c.before.before.put2.ensures)
 
-pub put-setting-spec : {M : Type 1} → statement M
-put-setting-spec =
+pub put_setting_spec : {M : Type 1} → statement M
+put_setting_spec =
     tie.close
     (tie.spec
     mul-put

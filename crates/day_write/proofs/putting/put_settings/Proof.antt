@@ -44,7 +44,7 @@ put-setting-requires c κs =
     let ss = rows now.before.before.before.before.before.before.before in
     (omega arith, omega (arith, section-room setting (length ss / 2) now.loop.i (pair_at 0 ss) c.before.loop-test.true))
 
-add-i : tie.Need-overflow-add-i invariant-loop decreases-loop
+add-i : tie.Need-overflow_add-i invariant-loop decreases-loop
 add-i c = search rules
 
 loop-less : tie.Need-loop-smaller invariant-loop decreases-loop
@@ -67,8 +67,8 @@ returns c =
     let all : c.before.loop.i ≡ length ss / 2 = search rules in
     rw (section-is setting (length ss / 2) (pair_at 0 ss)) (put_on count.put_count.ensures (rw all at c.before.loop.invariant.1))
 
-pub put-settings-spec : {M : Type 1} → statement M
-put-settings-spec =
+pub put_settings_spec : {M : Type 1} → statement M
+put_settings_spec =
     tie.close
     (tie.spec
     invariant-loop

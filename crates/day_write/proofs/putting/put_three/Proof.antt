@@ -8,13 +8,13 @@ use Rattle.day_write.proofs.putting.put_three.Tie as tie
 put-cell-requires : tie.Need-put-cell-requires
 put-cell-requires c κs = search rules
 
-add-put-cell : tie.Need-overflow-add-put-cell
+add-put-cell : tie.Need-overflow_add-put-cell
 add-put-cell c = search rules
 
 put-cell-requires-2 : tie.Need-put-cell-requires-2
 put-cell-requires-2 c κs = search rules
 
-add-put-cell-2 : tie.Need-overflow-add-put-cell-2
+add-put-cell-2 : tie.Need-overflow_add-put-cell-2
 add-put-cell-2 c = search rules
 
 put-cell-requires-3 : tie.Need-put-cell-requires-3
@@ -28,8 +28,8 @@ returns c =
     let second = c.before.before.before.before.before.before in
     put_on second.before.before.before.before.put-cell.ensures (put_on second.put-cell2.ensures c.before.before.put-cell3.ensures)
 
-pub put-three-spec : {M : Type 1} → statement M
-put-three-spec =
+pub put_three_spec : {M : Type 1} → statement M
+put_three_spec =
     tie.close
     (tie.spec
     put-cell-requires

@@ -28,8 +28,8 @@ returns c =
     let first = second.before.before.before.before.before in
     rw (← first.before.low_byte.ensures, ← second.before.low-byte2.ensures) (put_on first.put.ensures second.put2.ensures)
 
-pub put-two-spec : {M : Type 1} → statement M
-put-two-spec =
+pub put_two_spec : {M : Type 1} → statement M
+put_two_spec =
     tie.close
     (tie.spec
     low-byte-requires

@@ -16,10 +16,10 @@ loop-holds c = search rules
 counts-requires : tie.Need-counts-requires invariant-loop decreases-loop
 counts-requires c κs = search rules
 
-add-count : tie.Need-overflow-add-count invariant-loop decreases-loop
+add-count : tie.Need-overflow_add-count invariant-loop decreases-loop
 add-count c = search rules
 
-add-i : tie.Need-overflow-add-i invariant-loop decreases-loop
+add-i : tie.Need-overflow_add-i invariant-loop decreases-loop
 add-i c = search rules
 
 loop-less : tie.Need-loop-smaller invariant-loop decreases-loop
@@ -31,8 +31,8 @@ loop-again c = search rules
 returns : tie.Need-returns invariant-loop decreases-loop
 returns c = search rules
 
-pub compared-spec : {M : Type 1} → statement M
-compared-spec =
+pub compared_spec : {M : Type 1} → statement M
+compared_spec =
     tie.close
     (tie.spec
     invariant-loop

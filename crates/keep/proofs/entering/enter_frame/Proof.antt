@@ -14,16 +14,16 @@ flag-requires c κs = search rules
 setting-of-requires : tie.Need-setting-of-requires
 setting-of-requires c κs = search rules
 
-mul-put-frame : tie.Need-overflow-mul-put-frame
+mul-put-frame : tie.Need-overflow_mul-put-frame
 mul-put-frame c = search rules
 
 put-frame-requires : tie.Need-put-frame-requires
 put-frame-requires c κs = search rules
 
-add-t12 : tie.Need-overflow-add-t12
+add-t12 : tie.Need-overflow_add-t12
 add-t12 c = search rules
 
-add-t15 : tie.Need-overflow-add-t15
+add-t15 : tie.Need-overflow_add-t15
 add-t15 c = search rules
 
 with-repairs-requires : tie.Need-with-repairs-requires
@@ -50,8 +50,8 @@ returns-2 c =
       refused = few.refused;
     }
 
-pub enter-frame-spec : {M : Type 1} → statement M
-enter-frame-spec =
+pub enter_frame_spec : {M : Type 1} → statement M
+enter_frame_spec =
     tie.close
     (tie.spec
     returns

@@ -5,13 +5,13 @@ use borrow.Author.Rules.{rules}
 use Rattle.keep.proofs.entering.put.Statement.{statement}
 use Rattle.keep.proofs.entering.put.Tie as tie
 
-mul-rows : tie.Need-overflow-mul-rows
+mul-rows : tie.Need-overflow_mul-rows
 mul-rows c = search rules
 
 slice-write-rows : tie.Need-slice-write-rows
 slice-write-rows c = search rules
 
-add-result : tie.Need-overflow-add-result
+add-result : tie.Need-overflow_add-result
 add-result c = search rules
 
 same_length : tie.Need-same-length

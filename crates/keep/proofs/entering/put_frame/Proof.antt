@@ -11,7 +11,7 @@ narrow-requires c κs = search rules
 put-requires : tie.Need-put-requires
 put-requires c κs = search rules
 
-cast-put : tie.Need-overflow-cast-put
+cast-put : tie.Need-overflow_cast-put
 cast-put c = search rules
 
 put-requires-2 : tie.Need-put-requires-2
@@ -20,7 +20,7 @@ put-requires-2 c κs = search rules
 flag-requires : tie.Need-flag-requires
 flag-requires c κs = search rules
 
-cast-put-2 : tie.Need-overflow-cast-put-2
+cast-put-2 : tie.Need-overflow_cast-put-2
 cast-put-2 c = search rules
 
 put-requires-3 : tie.Need-put-requires-3
@@ -51,8 +51,8 @@ returns c =
     rw (← index.before.narrow.ensures, ← flag.before.flag.ensures, ← repairs.before.narrow2.ensures, ← length.before.narrow3.ensures)
     (put_on index.put.ensures (put_on cr.put2.ensures (put_on flag.put3.ensures (put_on repairs.put4.ensures length.put5.ensures))))
 
-pub put-frame-spec : {M : Type 1} → statement M
-put-frame-spec =
+pub put_frame_spec : {M : Type 1} → statement M
+put_frame_spec =
     tie.close
     (tie.spec
     narrow-requires

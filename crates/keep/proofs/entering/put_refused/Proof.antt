@@ -31,8 +31,8 @@ returns c =
     rw (← index.before.narrow.ensures, ← place.before.narrow2.ensures)
     (put_on index.put.ensures (put_on number.put2.ensures place.put3.ensures))
 
-pub put-refused-spec : {M : Type 1} → statement M
-put-refused-spec =
+pub put_refused_spec : {M : Type 1} → statement M
+put_refused_spec =
     tie.close
     (tie.spec
     narrow-requires

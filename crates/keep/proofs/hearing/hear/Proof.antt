@@ -25,10 +25,10 @@ enum_told c = search rules
 enum-known-call : tie.Need-enum-known-call
 enum-known-call c = search rules
 
-mul-hear-frame : tie.Need-overflow-mul-hear-frame
+mul-hear-frame : tie.Need-overflow_mul-hear-frame
 mul-hear-frame c = let h = within c.before in search rules
 
-sub-hear-frame : tie.Need-overflow-sub-hear-frame
+sub-hear-frame : tie.Need-overflow_sub-hear-frame
 sub-hear-frame c = within c.before
 
 part-hear-frame-start : tie.Need-slice-bounds-hear-frame-start
@@ -55,8 +55,8 @@ same-length-3 c = search rules
 returns-2 : tie.Need-returns-2
 returns-2 c = search rules
 
-pub hear-spec : {M : Type 1} → statement M
-hear-spec =
+pub hear_spec : {M : Type 1} → statement M
+hear_spec =
     tie.close
     (tie.spec
     finish-requires

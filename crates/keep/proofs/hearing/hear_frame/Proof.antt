@@ -20,6 +20,6 @@ same_length c = search rules
 returns : tie.Need-returns
 returns c = search rules
 
-pub hear-frame-spec : {M : Type 1} → statement M
-hear-frame-spec =
+pub hear_frame_spec : {M : Type 1} → statement M
+hear_frame_spec =
     tie.close (tie.spec slice-aggregate-read read-requires sort-requires same_length returns)

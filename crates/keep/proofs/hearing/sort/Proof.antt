@@ -25,8 +25,8 @@ returns-2 c = rw c.before.before.before.before.received2.given.1 at c.before.bef
 returns-3 : tie.Need-returns-3
 returns-3 c = search rules
 
-pub sort-spec : {M : Type 1} → statement M
-sort-spec =
+pub sort_spec : {M : Type 1} → statement M
+sort_spec =
     tie.close
     (tie.spec
     enum-known-received

@@ -56,8 +56,8 @@ returns c =
       search rules,
     )
 
-pub close-text-spec : {M : Type 1} → statement M
-close-text-spec =
+pub close_text_spec : {M : Type 1} → statement M
+close_text_spec =
     tie.close
     (tie.spec
     hear-behind-requires

@@ -12,7 +12,7 @@ line-end-requires c κs = search rules
 take-part-requires : tie.Need-take-part-requires
 take-part-requires c κs = search rules
 
-add-close-text : tie.Need-overflow-add-close-text
+add-close-text : tie.Need-overflow_add-close-text
 add-close-text c = search rules
 
 close-text-requires : tie.Need-close-text-requires

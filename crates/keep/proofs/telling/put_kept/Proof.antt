@@ -46,8 +46,8 @@ returns c =
     (put_on told.put-field4.ensures.0
     end.put.ensures))))
 
-pub put-kept-spec : {M : Type 1} → statement M
-put-kept-spec =
+pub put_kept_spec : {M : Type 1} → statement M
+put_kept_spec =
     tie.close
     (tie.spec
     slice-aggregate-put-words

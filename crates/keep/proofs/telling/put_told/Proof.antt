@@ -54,8 +54,8 @@ returns c =
     (put_on place.put-field3.ensures.0
     end.put.ensures)))))
 
-pub put-told-spec : {M : Type 1} → statement M
-put-told-spec =
+pub put_told_spec : {M : Type 1} → statement M
+put_told_spec =
     tie.close
     (tie.spec
     slice-aggregate-put-words

@@ -15,5 +15,5 @@ returns c = rw c.before.kind.given.1
 returns-2 : tie.Need-returns-2
 returns-2 c = rw c.before.kind2.given.1
 
-pub frame-of-spec : {M : Type 1} → statement M
-frame-of-spec = tie.close (tie.spec enum-known-kind enum-known-kind-2 returns returns-2)
+pub frame_of_spec : {M : Type 1} → statement M
+frame_of_spec = tie.close (tie.spec enum-known-kind enum-known-kind-2 returns returns-2)

@@ -38,5 +38,5 @@ returns-3 c =
     let short : c.before.before.before.before.args.length ≤ 255 = omega (arith, c.before.before.before.if1.false) in
     rw (c.before.kind.given.1, le-leb _ 255 short)
 
-pub takes-spec : {M : Type 1} → statement M
-takes-spec = tie.close (tie.spec returns enum_told enum-known-kind returns-2 returns-3)
+pub takes_spec : {M : Type 1} → statement M
+takes_spec = tie.close (tie.spec returns enum_told enum-known-kind returns-2 returns-3)

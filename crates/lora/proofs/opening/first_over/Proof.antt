@@ -35,7 +35,7 @@ power-requires c κs = search rules
 loop-holds : tie.Need-loop-init invariant-loop decreases-loop
 loop-holds c = (c.power.ensures.0 ∙ ap (λ (k : ℕ). 2 ^ k) c.before.wide.ensures, search rules, refl)
 
-mul-if2 : tie.Need-overflow-mul-if2 invariant-loop decreases-loop
+mul-if2 : tie.Need-overflow_mul-if2 invariant-loop decreases-loop
 mul-if2 c = search rules
 
 shared-slice-read-if2 : tie.Need-shared-slice-read-if2 invariant-loop decreases-loop
@@ -47,7 +47,7 @@ returns-2 c =
     let b = c.before.before.before in
     sym (b.loop.invariant.2 ∙ first-here (is_over _ (start b.before).args.symbols.now) _ _ (search rules) (le-leb _ _ (rw b.loop.invariant.0 at c.if2.true)))
 
-add-i : tie.Need-overflow-add-i invariant-loop decreases-loop
+add-i : tie.Need-overflow_add-i invariant-loop decreases-loop
 add-i c = search rules
 
 loop-less : tie.Need-loop-smaller invariant-loop decreases-loop
@@ -69,8 +69,8 @@ returns-3 c =
     let e : b.loop.i ≡ (start b.before).args.end = omega arith in
     sym (b.loop.invariant.2 ∙ first-end (is_over _ (start b.before).args.symbols.now) _ _ (search rules) ∙ e)
 
-pub first-over-spec : {M : Type 1} → statement M
-first-over-spec =
+pub first_over_spec : {M : Type 1} → statement M
+first_over_spec =
     tie.close
     (tie.spec
     invariant-loop

@@ -53,8 +53,8 @@ returns-2 c =
       flipped = λ h e. r.1 ∙ ap (flips _) (omega (arith, all, walk-range r.0));
     }
 
-pub header-of-spec : {M : Type 1} → statement M
-header-of-spec =
+pub header_of_spec : {M : Type 1} → statement M
+header_of_spec =
     tie.close
     (tie.spec
     read-rows-requires

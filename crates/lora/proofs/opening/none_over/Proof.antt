@@ -28,13 +28,13 @@ unfolding first_over is_over
 loop-holds c =
     (c.power.ensures.0 ∙ ap (λ (k : ℕ). 2 ^ k) c.before.wide.ensures, search rules, search rules, none-start _ _)
 
-mul-if1 : tie.Need-overflow-mul-if1 invariant-loop decreases-loop
+mul-if1 : tie.Need-overflow_mul-if1 invariant-loop decreases-loop
 mul-if1 c = search rules
 
 shared-slice-read-if1 : tie.Need-shared-slice-read-if1 invariant-loop decreases-loop
 shared-slice-read-if1 c = search rules
 
-add-i : tie.Need-overflow-add-i invariant-loop decreases-loop
+add-i : tie.Need-overflow_add-i invariant-loop decreases-loop
 add-i c = search rules
 
 loop-less : tie.Need-loop-smaller invariant-loop decreases-loop
@@ -60,8 +60,8 @@ returns c =
     let e : l.i ≡ c.before.before.before.before.before.args.end = omega arith in
     rw e at l.invariant.3
 
-pub none-over-spec : {M : Type 1} → statement M
-none-over-spec =
+pub none_over_spec : {M : Type 1} → statement M
+none_over_spec =
     tie.close
     (tie.spec
     invariant-loop

@@ -15,5 +15,5 @@ returns c = rw c.before.v.given.1
 returns-2 : tie.Need-returns-2
 returns-2 c = rw c.before.v2.given.1
 
-pub said-spec : {M : Type 1} → statement M
-said-spec = tie.close (tie.spec enum-known-v enum-known-v-2 returns returns-2)
+pub said_spec : {M : Type 1} → statement M
+said_spec = tie.close (tie.spec enum-known-v enum-known-v-2 returns returns-2)

@@ -52,5 +52,5 @@ returns-5 c =
       says-data _ _ _ _ _ total fits lists there (over-is f) c.if4.false,
     )
 
-pub admit-spec : {M : Type 1} → statement M
-admit-spec = tie.close (tie.spec returns returns-2 returns-3 first-over-requires returns-4 returns-5)
+pub admit_spec : {M : Type 1} → statement M
+admit_spec = tie.close (tie.spec returns returns-2 returns-3 first-over-requires returns-4 returns-5)

@@ -59,7 +59,7 @@ marked c =
 nibbles-of-requires : tie.Need-nibbles-of-requires
 nibbles-of-requires c κs = search rules
 
-sub-read-data : tie.Need-overflow-sub-read-data
+sub-read-data : tie.Need-overflow_sub-read-data
 unfolding nibbles_of
 sub-read-data c = omega (arith, c.nibbles-of.ensures)
 
@@ -81,7 +81,7 @@ read-data-requires c κs =
       s.requires.3,
     )
 
-add-end : tie.Need-overflow-add-end
+add-end : tie.Need-overflow_add-end
 add-end c = omega (arith, few c.before, (start c.before).requires.2.headed.valid.header-high)
 
 returns : tie.Need-returns
@@ -113,7 +113,7 @@ returns-2 c =
       held = search rules;
     }
 
-add-t18 : tie.Need-overflow-add-t18
+add-t18 : tie.Need-overflow_add-t18
 add-t18 c =
     let p = c.before.before.before.before in
     let r = p.before.before.before.before in
@@ -147,8 +147,8 @@ returns-3 c =
       held = (p.payload-of-nibbles.ensures ∙ run-payload w (whole e) (blank 255 0), marked e);
     }
 
-pub decode-spec : {M : Type 1} → statement M
-decode-spec =
+pub decode_spec : {M : Type 1} → statement M
+decode_spec =
     tie.close
     (tie.spec
     nibbles-of-requires

@@ -97,8 +97,8 @@ returns-2 c =
       marks = m.copy2.ensures ∙ copied-marks _ _ _ _ (start d).requires.2.whole (marks-there a) (held a).1;
     }
 
-pub deliver-spec : {M : Type 1} → statement M
-deliver-spec =
+pub deliver_spec : {M : Type 1} → statement M
+deliver_spec =
     tie.close
     (tie.spec
     decode-requires

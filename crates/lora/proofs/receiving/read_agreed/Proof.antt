@@ -63,8 +63,8 @@ returns-2 c =
       marks = b.marks ∙ hurts-said _ _ (Agreed a.length a.cr a.checked) _ _ _ _ _ _ _ _ b.answer;
     }
 
-pub read-agreed-spec : {M : Type 1} → statement M
-read-agreed-spec =
+pub read_agreed_spec : {M : Type 1} → statement M
+read_agreed_spec =
     tie.close
     (tie.spec
     count-requires

@@ -75,8 +75,8 @@ returns-2 c =
     let b = d.deliver.ensures in
     record { answer = b.answer ∙ sym is; cells = b.cells; marks = b.marks }
 
-pub read-bare-spec : {M : Type 1} → statement M
-read-bare-spec =
+pub read_bare_spec : {M : Type 1} → statement M
+read_bare_spec =
     tie.close
     (tie.spec
     admit-requires

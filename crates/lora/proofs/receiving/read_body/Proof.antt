@@ -59,8 +59,8 @@ returns-2 c =
     let b = d.deliver.ensures in
     record { answer = b.answer ∙ sym is; cells = b.cells; marks = b.marks }
 
-pub read-body-spec : {M : Type 1} → statement M
-read-body-spec =
+pub read_body_spec : {M : Type 1} → statement M
+read_body_spec =
     tie.close
     (tie.spec
     symbols-of-requires

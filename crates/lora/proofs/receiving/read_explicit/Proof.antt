@@ -30,8 +30,8 @@ same-length-2 c = search rules
 returns-2 : tie.Need-returns-2
 returns-2 c = search rules
 
-pub read-explicit-spec : {M : Type 1} → statement M
-read-explicit-spec =
+pub read_explicit_spec : {M : Type 1} → statement M
+read_explicit_spec =
     tie.close
     (tie.spec
     enter-requires

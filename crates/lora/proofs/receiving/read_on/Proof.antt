@@ -82,8 +82,8 @@ returns-2 c =
       marks = b.marks ∙ hurts-said _ _ _ _ _ _ _ _ _ _ _ b.answer;
     }
 
-pub read-on-spec : {M : Type 1} → statement M
-read-on-spec =
+pub read_on_spec : {M : Type 1} → statement M
+read_on_spec =
     tie.close
     (tie.spec
     first-grid-requires

@@ -26,8 +26,8 @@ returns-2 : tie.Need-returns-2
 unfolding sum_agrees
 returns-2 c = rw c.if1.false
 
-pub sum-holds-spec : {M : Type 1} → statement M
-sum-holds-spec =
+pub sum_holds_spec : {M : Type 1} → statement M
+sum_holds_spec =
     tie.close
     (tie.spec
     array-share-prefix-payload

@@ -60,8 +60,8 @@ returns-3 c =
       answer = rw (sym told.before.before.count.ensures ∙ told.counted2.given.1, le-leb _ _ f.before.if1.false);
     }
 
-pub code-spec : {M : Type 1} → statement M
-code-spec =
+pub code_spec : {M : Type 1} → statement M
+code_spec =
     tie.close
     (tie.spec
     count-requires

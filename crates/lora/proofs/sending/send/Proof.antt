@@ -48,8 +48,8 @@ returns c =
     let k = w.before.before.before in
     rw (header_is k.before, k.checksum.ensures) at w.write-frame.ensures
 
-pub send-spec : {M : Type 1} → statement M
-send-spec =
+pub send_spec : {M : Type 1} → statement M
+send_spec =
     tie.close
     (tie.spec
     header-nibbles-requires

@@ -44,8 +44,8 @@ returns-3 c =
     let k = c.before.before.before.before in
     rw (sym k.before.before.count.ensures ∙ k.counted2.given.1, sym c.before.before.valid-bandwidth.ensures ∙ not-false _ c.before.if1.false, c.microseconds.ensures)
 
-pub airtime-spec : {M : Type 1} → statement M
-airtime-spec =
+pub airtime_spec : {M : Type 1} → statement M
+airtime_spec =
     tie.close
     (tie.spec
     count-requires

@@ -16,13 +16,13 @@ small c =
 wide16-requires : tie.Need-wide16-requires
 wide16-requires c κs = search rules
 
-add-quarters : tie.Need-overflow-add-quarters
+add-quarters : tie.Need-overflow_add-quarters
 add-quarters c = search rules
 
-mul-quarters : tie.Need-overflow-mul-quarters
+mul-quarters : tie.Need-overflow_mul-quarters
 mul-quarters c = search rules
 
-add-quarters-2 : tie.Need-overflow-add-quarters-2
+add-quarters-2 : tie.Need-overflow_add-quarters-2
 add-quarters-2 c = search rules
 
 wide-requires : tie.Need-wide-requires
@@ -31,13 +31,13 @@ wide-requires c κs = search rules
 power-requires : tie.Need-power-requires
 power-requires c κs = search rules
 
-cast-result : tie.Need-overflow-cast-result
+cast-result : tie.Need-overflow_cast-result
 cast-result c = search rules
 
-mul-result : tie.Need-overflow-mul-result
+mul-result : tie.Need-overflow_mul-result
 mul-result c = omega (arith, small c)
 
-mul-result-2 : tie.Need-overflow-mul-result-2
+mul-result-2 : tie.Need-overflow_mul-result-2
 mul-result-2 c = omega (arith, small c)
 
 div-result : tie.Need-nonzero-div-result
@@ -47,8 +47,8 @@ returns : tie.Need-returns
 unfolding microseconds dividend
 returns c = rw (c.before.before.wide16.ensures, c.power.ensures.0, c.before.wide.ensures)
 
-pub microseconds-spec : {M : Type 1} → statement M
-microseconds-spec =
+pub microseconds_spec : {M : Type 1} → statement M
+microseconds_spec =
     tie.close
     (tie.spec
     wide16-requires

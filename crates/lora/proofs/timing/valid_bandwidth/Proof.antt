@@ -16,5 +16,5 @@ returns-3 : tie.Need-returns-3
 unfolding valid_bandwidth
 returns-3 c = rw (ne_eqb _ _ c.before.if1.false, ne_eqb _ _ c.if2.false)
 
-pub valid-bandwidth-spec : {M : Type 1} → statement M
-valid-bandwidth-spec = tie.close (tie.spec returns returns-2 returns-3)
+pub valid_bandwidth_spec : {M : Type 1} → statement M
+valid_bandwidth_spec = tie.close (tie.spec returns returns-2 returns-3)

@@ -15,6 +15,6 @@ same_length c = search rules
 returns : tie.Need-returns
 returns c = rw c.before.before.before.before.settings.ensures at c.before.before.airtime-into.ensures
 
-pub lora-airtime-agreed-spec : {M : Type 1} → statement M
-lora-airtime-agreed-spec =
+pub lora_airtime_agreed_spec : {M : Type 1} → statement M
+lora_airtime_agreed_spec =
     tie.close (tie.spec settings-requires airtime-into-requires same_length returns)

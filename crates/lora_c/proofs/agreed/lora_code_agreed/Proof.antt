@@ -18,6 +18,6 @@ same-length-2 c = search rules
 returns : tie.Need-returns
 returns c = let k = c.before.before.before.before in rw k.before.before.before.settings.ensures at k.code-into.ensures
 
-pub lora-code-agreed-spec : {M : Type 1} → statement M
-lora-code-agreed-spec =
+pub lora_code_agreed_spec : {M : Type 1} → statement M
+lora_code_agreed_spec =
     tie.close (tie.spec settings-requires code-into-requires same_length same-length-2 returns)

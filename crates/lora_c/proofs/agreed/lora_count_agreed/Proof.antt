@@ -15,6 +15,6 @@ same_length c = search rules
 returns : tie.Need-returns
 returns c = rw c.before.before.before.before.settings.ensures at c.before.before.count-into.ensures
 
-pub lora-count-agreed-spec : {M : Type 1} → statement M
-lora-count-agreed-spec =
+pub lora_count_agreed_spec : {M : Type 1} → statement M
+lora_count_agreed_spec =
     tie.close (tie.spec settings-requires count-into-requires same_length returns)

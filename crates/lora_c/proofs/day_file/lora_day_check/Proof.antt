@@ -52,8 +52,8 @@ returns-3 c =
     rw (sym k.check.ensures ∙ m.found2.given.1)
     (record { is = enough k.before.if1.false p.put2.ensures })
 
-pub lora-day-check-spec : {M : Type 1} → statement M
-lora-day-check-spec =
+pub lora_day_check_spec : {M : Type 1} → statement M
+lora_day_check_spec =
     tie.close
     (tie.spec
     returns

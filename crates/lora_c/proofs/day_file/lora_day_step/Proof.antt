@@ -18,5 +18,5 @@ returns c =
     let p = c.before.before in
     rw (← p.before.before.entry_at.ensures) p.tell.ensures
 
-pub lora-day-step-spec : {M : Type 1} → statement M
-lora-day-step-spec = tie.close (tie.spec entry-at-requires tell-requires same_length returns)
+pub lora_day_step_spec : {M : Type 1} → statement M
+lora_day_step_spec = tie.close (tie.spec entry-at-requires tell-requires same_length returns)

@@ -60,8 +60,8 @@ returns-3 c =
     rw (sym k.write.ensures.answer ∙ m.written2.given.1)
     (record { is = enough h p.put2.ensures; bytes = lent-enough h (rw m.written2.given.1 at k.write.ensures.cells) })
 
-pub lora-day-write-spec : {M : Type 1} → statement M
-lora-day-write-spec =
+pub lora_day_write_spec : {M : Type 1} → statement M
+lora_day_write_spec =
     tie.close
     (tie.spec
     returns

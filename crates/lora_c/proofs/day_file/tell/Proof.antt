@@ -94,8 +94,8 @@ returns-6 c =
     rw m.entry4.given.1
     (record { is = enough m.before.before.if1.false p.put2.ensures })
 
-pub tell-spec : {M : Type 1} → statement M
-tell-spec =
+pub tell_spec : {M : Type 1} → statement M
+tell_spec =
     tie.close
     (tie.spec
     returns

@@ -24,10 +24,10 @@ returns-2 c = search rules
 returns-3 : tie.Need-returns-3
 returns-3 c = search rules
 
-sub-result : tie.Need-overflow-sub-result
+sub-result : tie.Need-overflow_sub-result
 sub-result c = search rules
 
-mul-result : tie.Need-overflow-mul-result
+mul-result : tie.Need-overflow_mul-result
 mul-result c = search rules
 
 array-read-result : tie.Need-array-read-result
@@ -36,7 +36,7 @@ array-read-result c = search rules
 returns-4 : tie.Need-returns-4
 returns-4 c = behind _ c.before.before.before.before.args.i (omega arith)
 
-pub cell-of-spec : {M : Type 1} → statement M
-cell-of-spec =
+pub cell_of_spec : {M : Type 1} → statement M
+cell_of_spec =
     tie.close
     (tie.spec returns returns-2 returns-3 sub-result mul-result array-read-result returns-4)

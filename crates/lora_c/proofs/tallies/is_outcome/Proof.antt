@@ -12,5 +12,5 @@ returns-2 : tie.Need-returns-2
 unfolding is_outcome
 returns-2 c = rw (ne_eqb _ _ c.if1.false)
 
-pub is-outcome-spec : {M : Type 1} → statement M
-is-outcome-spec = tie.close (tie.spec returns returns-2)
+pub is_outcome_spec : {M : Type 1} → statement M
+is_outcome_spec = tie.close (tie.spec returns returns-2)

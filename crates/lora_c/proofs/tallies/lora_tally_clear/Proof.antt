@@ -25,7 +25,7 @@ returns-2 c =
     rw (← c.before.before.before.before.before.tally-in.ensures, ← c.before.before.before.before.cleared.ensures)
     (as-noted (le-leb _ _ c.before.before.before.before.before.before.before.if1.false) c.before.before.note.ensures)
 
-pub lora-tally-clear-spec : {M : Type 1} → statement M
-lora-tally-clear-spec =
+pub lora_tally_clear_spec : {M : Type 1} → statement M
+lora_tally_clear_spec =
     tie.close
     (tie.spec returns tally-in-requires cleared-requires note-requires same_length returns-2)

@@ -35,8 +35,8 @@ returns-3 c =
     rw (← c.before.before.before.before.before.before.tally-in.ensures, ← c.before.before.before.before.before.outcome-in.ensures, ← c.before.before.before.before.hearing.ensures)
     (as-noted (rw (le-leb _ _ c.before.before.before.before.before.before.before.before.before.before.if1.false, sym c.before.before.before.before.before.before.before.before.before.is-outcome.ensures ∙ not-false _ c.before.before.before.before.before.before.before.before.if2.false)) c.before.before.note.ensures)
 
-pub lora-tally-hear-spec : {M : Type 1} → statement M
-lora-tally-hear-spec =
+pub lora_tally_hear_spec : {M : Type 1} → statement M
+lora_tally_hear_spec =
     tie.close
     (tie.spec
     returns

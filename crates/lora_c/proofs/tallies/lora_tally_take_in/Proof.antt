@@ -31,8 +31,8 @@ returns-3 c =
     rw (← c.before.before.before.before.before.before.tally-in.ensures, ← c.before.before.before.before.before.tally-in2.ensures, ← c.before.before.before.before.taking.ensures)
     (as-noted (rw (le-leb _ _ c.before.before.before.before.before.before.before.before.before.if1.false, le-leb _ _ c.before.before.before.before.before.before.before.before.if2.false)) c.before.before.note.ensures)
 
-pub lora-tally-take-in-spec : {M : Type 1} → statement M
-lora-tally-take-in-spec =
+pub lora_tally_take_in_spec : {M : Type 1} → statement M
+lora_tally_take_in_spec =
     tie.close
     (tie.spec
     returns

@@ -22,7 +22,7 @@ returns c = rw c.before.before.before.before.enum_told.given.1 (refl, c.before.b
 returns-2 : tie.Need-returns-2
 returns-2 c = search rules
 
-pub note-spec : {M : Type 1} → statement M
-note-spec =
+pub note_spec : {M : Type 1} → statement M
+note_spec =
     tie.close
     (tie.spec enum_told put-tally-requires enum-known-answer same_length returns returns-2)

@@ -27,5 +27,5 @@ returns-2 : tie.Need-returns-2
 unfolding outcome_in
 returns-2 c = rw (ne_eqb _ _ c.if1.false)
 
-pub outcome-in-spec : {M : Type 1} → statement M
-outcome-in-spec = tie.close (tie.spec shared-slice-read-t5 returns returns-2)
+pub outcome_in_spec : {M : Type 1} → statement M
+outcome_in_spec = tie.close (tie.spec shared-slice-read-t5 returns returns-2)

@@ -20,13 +20,13 @@ loop-holds c = (search rules, search rules, filled_none _ _)
 cell-of-requires : tie.Need-cell-of-requires invariant-loop decreases-loop
 cell-of-requires c κs = search rules
 
-mul-cells : tie.Need-overflow-mul-cells invariant-loop decreases-loop
+mul-cells : tie.Need-overflow_mul-cells invariant-loop decreases-loop
 mul-cells c = search rules
 
 slice-write-cells : tie.Need-slice-write-cells invariant-loop decreases-loop
 slice-write-cells c = search rules
 
-add-i : tie.Need-overflow-add-i invariant-loop decreases-loop
+add-i : tie.Need-overflow_add-i invariant-loop decreases-loop
 add-i c = search rules
 
 loop-less : tie.Need-loop-smaller invariant-loop decreases-loop
@@ -41,8 +41,8 @@ same_length c = search rules
 returns : tie.Need-returns invariant-loop decreases-loop
 returns c = filled-end c.before.loop.invariant.2 (omega arith)
 
-pub put-tally-spec : {M : Type 1} → statement M
-put-tally-spec =
+pub put_tally_spec : {M : Type 1} → statement M
+put_tally_spec =
     tie.close
     (tie.spec
     invariant-loop

@@ -18,22 +18,22 @@ decreases-loop cells refused₀ n₀ refused n = 13 - n
 loop-holds : tie.Need-loop-init invariant-loop decreases-loop
 loop-holds c = (search rules, refl, filled_none _ _)
 
-add-refused : tie.Need-overflow-add-refused invariant-loop decreases-loop
+add-refused : tie.Need-overflow_add-refused invariant-loop decreases-loop
 add-refused c = search rules
 
-mul-refused : tie.Need-overflow-mul-refused invariant-loop decreases-loop
+mul-refused : tie.Need-overflow_mul-refused invariant-loop decreases-loop
 mul-refused c = search rules
 
 shared-slice-read-refused : tie.Need-shared-slice-read-refused invariant-loop decreases-loop
 shared-slice-read-refused c = search rules
 
-mul-refused-2 : tie.Need-overflow-mul-refused-2 invariant-loop decreases-loop
+mul-refused-2 : tie.Need-overflow_mul-refused-2 invariant-loop decreases-loop
 mul-refused-2 c = search rules
 
 array-write-refused : tie.Need-array-write-refused invariant-loop decreases-loop
 array-write-refused c = search rules
 
-add-n : tie.Need-overflow-add-n invariant-loop decreases-loop
+add-n : tie.Need-overflow_add-n invariant-loop decreases-loop
 add-n c = search rules
 
 loop-less : tie.Need-loop-smaller invariant-loop decreases-loop
@@ -46,8 +46,8 @@ loop-again c = (search rules, search rules, filled_more c.before.before.loop.inv
 returns : tie.Need-returns invariant-loop decreases-loop
 returns c = filled-whole 13 c.before.loop.invariant.2 (omega arith) c.before.loop.invariant.1
 
-pub refused-in-spec : {M : Type 1} → statement M
-refused-in-spec =
+pub refused_in_spec : {M : Type 1} → statement M
+refused_in_spec =
     tie.close
     (tie.spec
     invariant-loop

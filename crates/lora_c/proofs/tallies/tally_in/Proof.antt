@@ -20,8 +20,8 @@ returns : tie.Need-returns
 unfolding tally_in
 returns c = rw (← c.refused-in.ensures)
 
-pub tally-in-spec : {M : Type 1} → statement M
-tally-in-spec =
+pub tally_in_spec : {M : Type 1} → statement M
+tally_in_spec =
     tie.close
     (tie.spec
     shared-slice-read-t3

@@ -17,7 +17,7 @@ decreases-loop name n₀ n = n
 loop-holds : tie.Need-loop-init invariant-loop decreases-loop
 loop-holds c = search rules
 
-sub-if1 : tie.Need-overflow-sub-if1 invariant-loop decreases-loop
+sub-if1 : tie.Need-overflow_sub-if1 invariant-loop decreases-loop
 sub-if1 c = search rules
 
 shared-slice-read-if1 : tie.Need-shared-slice-read-if1 invariant-loop decreases-loop
@@ -26,7 +26,7 @@ shared-slice-read-if1 c = search rules
 returns : tie.Need-returns invariant-loop decreases-loop
 returns c = let l = c.before.before.before.loop.invariant in (l, sym (length-take-le _ _ l))
 
-sub-n : tie.Need-overflow-sub-n invariant-loop decreases-loop
+sub-n : tie.Need-overflow_sub-n invariant-loop decreases-loop
 sub-n c = search rules
 
 loop-less : tie.Need-loop-smaller invariant-loop decreases-loop
@@ -38,8 +38,8 @@ loop-again c = search rules
 returns-2 : tie.Need-returns-2 invariant-loop decreases-loop
 returns-2 c = let l = c.before.loop.invariant in (l, sym (length-take-le _ _ l))
 
-pub folder-spec : {M : Type 1} → statement M
-folder-spec =
+pub folder_spec : {M : Type 1} → statement M
+folder_spec =
     tie.close
     (tie.spec
     invariant-loop

@@ -33,8 +33,8 @@ same_length c = search rules
 returns : tie.Need-returns
 returns c = search rules
 
-pub make-beside-spec : {M : Type 1} → statement M
-make-beside-spec =
+pub make_beside_spec : {M : Type 1} → statement M
+make_beside_spec =
     tie.close
     (tie.spec
     put-requires

@@ -5,7 +5,7 @@ use borrow.Author.Rules.{rules}
 use Rattle.system.proofs.files.read_behind.Statement.{statement}
 use Rattle.system.proofs.files.read_behind.Tie as tie
 
-sub-read-from : tie.Need-overflow-sub-read-from
+sub-read-from : tie.Need-overflow_sub-read-from
 sub-read-from c = search rules
 
 part-read-from-start : tie.Need-slice-bounds-read-from-start
@@ -23,8 +23,8 @@ same_length c = search rules
 returns : tie.Need-returns
 returns c = behind c.before.before.read-from.result _ _ _ (search rules) c.before.before.read-from.ensures
 
-pub read-behind-spec : {M : Type 1} → statement M
-read-behind-spec =
+pub read_behind_spec : {M : Type 1} → statement M
+read_behind_spec =
     tie.close
     (tie.spec
     sub-read-from

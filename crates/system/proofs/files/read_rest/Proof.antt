@@ -16,7 +16,7 @@ decreases-loop fd buffer₀ have₀ turns₀ buffer have turns = turns
 loop-holds : tie.Need-loop-init invariant-loop decreases-loop
 loop-holds c = search rules
 
-sub-turns : tie.Need-overflow-sub-turns invariant-loop decreases-loop
+sub-turns : tie.Need-overflow_sub-turns invariant-loop decreases-loop
 sub-turns c = search rules
 
 same_length : tie.Need-same-length invariant-loop decreases-loop
@@ -31,7 +31,7 @@ read-behind-requires c κs = search rules
 enum-known-got : tie.Need-enum-known-got invariant-loop decreases-loop
 enum-known-got c = search rules
 
-add-have : tie.Need-overflow-add-have invariant-loop decreases-loop
+add-have : tie.Need-overflow_add-have invariant-loop decreases-loop
 add-have c = let h = rw c.before.got.given.1 at c.before.before.before.before.before.read_behind.ensures in search rules
 
 loop-less : tie.Need-loop-smaller invariant-loop decreases-loop
@@ -64,8 +64,8 @@ same-length-4 c = search rules
 returns-4 : tie.Need-returns-4 invariant-loop decreases-loop
 returns-4 c = search rules
 
-pub read-rest-spec : {M : Type 1} → statement M
-read-rest-spec =
+pub read_rest_spec : {M : Type 1} → statement M
+read_rest_spec =
     tie.close
     (tie.spec
     invariant-loop
