@@ -49,7 +49,7 @@ low_bits-lt (suc k) r byte h = low_bits-lt k _ byte (one_bit-lt r _ h (bit-lt _ 
 remainder-lt : (r : ℕ) (bytes : List ℕ) → r < 65536 → remainder r bytes < 65536
 unfolding remainder one_byte
 remainder-lt r [] h = h
-remainder-lt r (byte ∷ bytes) h = remainder-lt _ bytes (low_bits-lt 8 r byte h)
+remainder-lt r (byte ∷ bytes) h = remainder-lt (low_bits 8 r byte) bytes (low_bits-lt 8 r byte h)
 
 -- a checksum has 16 bits
 pub checksum-lt : (payload : List ℕ) → checksum payload < 65536

@@ -1,0 +1,7 @@
+-- `show_refusal` writes its line out.
+-- Assumes nothing.
+use Rattle.showing.proofs.AlongLaws.{put-printing}
+use Rattle.showing.proofs.show_refusal.Goals as goal
+
+pub returns : goal.returns
+returns c = put-printing c.put_no-n.ensures c.write.ensures
