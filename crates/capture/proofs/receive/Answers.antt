@@ -9,17 +9,17 @@ use Rattle.capture.proofs.receive.Reads as reads
 use Rattle.capture.proofs.receive.Lts as lts
 use Rattle.capture.proofs.receive.Goals as goal
 
-within : (c : lts.After-call tie.the-claims reads.Pre reads.Post) → c.in-Frame.start ≤ c.args.done.text.count
+within : (c : lts.Past-After-known_told tie.the-claims reads.Pre reads.Post) → c.in-Frame.start ≤ c.args.done.text.count
 within c = made-within _ c.args.numbers.now (search rules) (rw c.in-Frame.is at c.call_of-call.ensures)
 
 pub offset_bounds-numbers-start : goal.offset_bounds-numbers-start
-offset_bounds-numbers-start c = let h = within c.before.before in search rules
+offset_bounds-numbers-start c = let h = within c.before in search rules
 
 pub slice_bounds-read-count : goal.slice_bounds-read-count
-slice_bounds-read-count c = within c.before.before
+slice_bounds-read-count c = within c.before
 
 pub slice_bounds-read-start : goal.slice_bounds-read-start
-slice_bounds-read-start c = let h = within c.before.before in search rules
+slice_bounds-read-start c = let h = within c.before in search rules
 
 pub returns-in-Bad : goal.returns-in-Bad
 returns-in-Bad c = none-heard (rw c.in-Bad.is at c.call_of-call.ensures)

@@ -1,7 +1,6 @@
 use mathlib.Core.Path.{refl}
 use mathlib.Core.Bool.{false}
 use mathlib.Core.List.{[]}
-use mathlib.Core.Logic.{⊎_elim}
 use Prim.Native.Nat.{◌+◌, ◌-◌, ◌*◌, ◌≤◌, ◌<◌}
 use native.Mathlib.Omega.{arith}
 use lib.ListN.{length}
@@ -14,6 +13,7 @@ use Rattle.coding.proofs.grid_of_block.Tie as tie
 use Rattle.coding.proofs.grid_of_block.Reads as reads
 use Rattle.coding.proofs.grid_of_block.Lts as lts
 use Rattle.coding.proofs.grid_of_block.Goals as goal
+use Rattle.coding.proofs.grid_of_block.Goals.{then-i-n, else-i-n}
 
 pub loop-i-init : goal.loop-i-init
 unfolding blank
@@ -39,9 +39,13 @@ loop-i-preserved c =
     let l = c.loop-i in
     let room : l.i < length (blank 12 (blank 8 false)) = omega (arith, length-blank 12 (blank 8 false)) in (
       search rules,
-      ⊎_elim (λ w. rw w.4 (filled_more l.invariant.1 room (row_read _ c.args.b.codeword c.args.b.rows _ l.i c.requires.2 w.0.taken w.2.ensures
-          (few record { before = record { before = record { before = c.before; if1 = w.0 }; wide-arg = w.1 }; wide2 = w.2 }))))
-          (λ w. rw w.1 (filled-skip [] l.invariant.1 room (row-blank _ c.args.b.codeword c.args.b.rows _ l.i w.0.left (omega arith)))) c.if-i-n.branch,
+      elim c.if-i-n.branch [
+        then-i-n w ↦
+          let nibble : w.wide-then-i-n.result < 16 = rw w.wide-then-i-n.ensures (search c.requires.3) in
+          rw w.g-is (filled_more l.invariant.1 room (row_read _ c.args.b.codeword c.args.b.rows _ l.i c.requires.2 w.if-i-n.true w.wide-then-i-n.ensures
+              (omega (arith, c.wide.ensures, nibble))))
+      | else-i-n w ↦ rw w.g-is (filled-skip [] l.invariant.1 room (row-blank _ c.args.b.codeword c.args.b.rows _ l.i w.if-i-n.false (omega arith)))
+      ],
     )
 
 pub returns : goal.returns

@@ -14,10 +14,10 @@ use Rattle.hurt.proofs.write_hurt.Lts as lts
 use Rattle.hurt.proofs.write_hurt.Goals as goal
 
 -- an accepted answer: its symbols have a cell each, so that the part of the cells is as long
-fits : (c : lts.After-received tie.the-claims reads.Pre reads.Post) → c.in-Payload.a.symbols ≤ 832
+fits : (c : lts.Past-After-known_told tie.the-claims reads.Pre reads.Post) → c.in-Payload.a.symbols ≤ 832
 fits c = rw c.in-Payload.is at c.requires.0
 
-long : (c : lts.After-received tie.the-claims reads.Pre reads.Post) → length (take c.in-Payload.a.symbols c.args.hurts.now) ≤ 832
+long : (c : lts.Past-After-known_told tie.the-claims reads.Pre reads.Post) → length (take c.in-Payload.a.symbols c.args.hurts.now) ≤ 832
 long c = let h = fits c in rw (length-take-le c.in-Payload.a.symbols c.args.hurts.now (search rules)) h
 
 -- a refusal's line is far shorter than the room
@@ -25,10 +25,10 @@ room : (n : ℕ) → n ≤ 640 → n ≤ 7000
 room n h = omega arith
 
 pub slice_bounds-write_ok-end : goal.slice_bounds-write_ok-end
-slice_bounds-write_ok-end c = sym (length-take-le _ _ (let h = fits c.before.before in search rules))
+slice_bounds-write_ok-end c = sym (length-take-le _ _ (let h = fits c.before in search rules))
 
 pub write_ok-requires : goal.write_ok-requires
-write_ok-requires c = (long c.before.before.before, search rules)
+write_ok-requires c = (long c.before.before, search rules)
 
 pub returns-in-Payload : goal.returns-in-Payload
 returns-in-Payload c =

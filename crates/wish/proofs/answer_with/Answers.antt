@@ -12,17 +12,17 @@ use Rattle.wish.proofs.answer_with.Lts as lts
 use Rattle.wish.proofs.answer_with.Goals as goal
 
 -- what was coded: its symbols fit the list, so that the part of the list is as long
-fits : (c : lts.After-counted tie.the-claims reads.Pre reads.Post) → c.in-Symbols.count ≤ 832
+fits : (c : lts.Past-After-known_told tie.the-claims reads.Pre reads.Post) → c.in-Symbols.count ≤ 832
 fits c = rw c.in-Symbols.is at c.requires.0
 
-long : (c : lts.After-counted tie.the-claims reads.Pre reads.Post) → length (take c.in-Symbols.count c.args.symbols.now) ≤ 832
+long : (c : lts.Past-After-known_told tie.the-claims reads.Pre reads.Post) → length (take c.in-Symbols.count c.args.symbols.now) ≤ 832
 long c = let h = fits c in rw (length-take-le c.in-Symbols.count c.args.symbols.now (search rules)) h
 
 pub slice_bounds-put_frame-end : goal.slice_bounds-put_frame-end
-slice_bounds-put_frame-end c = sym (length-take-le _ _ (let h = fits c.before.before in search rules))
+slice_bounds-put_frame-end c = sym (length-take-le _ _ (let h = fits c.before in search rules))
 
 pub put_frame-requires : goal.put_frame-requires
-put_frame-requires c = (long c.before.before.before, search rules)
+put_frame-requires c = (long c.before.before, search rules)
 
 pub returns-in-Symbols : goal.returns-in-Symbols
 returns-in-Symbols c =

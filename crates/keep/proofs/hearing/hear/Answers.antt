@@ -8,14 +8,14 @@ use Rattle.keep.proofs.hearing.hear.Reads as reads
 use Rattle.keep.proofs.hearing.hear.Lts as lts
 use Rattle.keep.proofs.hearing.hear.Goals as goal
 
-within : (c : lts.After-call tie.the-claims reads.Pre reads.Post) → c.in-Frame.start ≤ c.finish-done.result.text.count
+within : (c : lts.Past-After-known_told tie.the-claims reads.Pre reads.Post) → c.in-Frame.start ≤ c.finish-done.result.text.count
 within c = made-within _ c.finish-done.new.numbers (search rules) (rw c.in-Frame.is at c.call_of-call.ensures)
 
 pub offset_bounds-numbers-start : goal.offset_bounds-numbers-start
-offset_bounds-numbers-start c = let h = within c.before.before in search rules
+offset_bounds-numbers-start c = let h = within c.before in search rules
 
 pub slice_bounds-hear_frame-count : goal.slice_bounds-hear_frame-count
-slice_bounds-hear_frame-count c = within c.before.before
+slice_bounds-hear_frame-count c = within c.before
 
 pub slice_bounds-hear_frame-start : goal.slice_bounds-hear_frame-start
-slice_bounds-hear_frame-start c = let h = within c.before.before in search rules
+slice_bounds-hear_frame-start c = let h = within c.before in search rules

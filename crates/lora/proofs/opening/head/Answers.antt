@@ -9,7 +9,7 @@ use Rattle.lora.proofs.opening.head.Lts as lts
 use Rattle.lora.proofs.opening.head.Goals as goal
 
 -- the checks are passed
-passed : (c : lts.After-enum_told tie.the-claims reads.Pre reads.Post) → let a = c.args in Entered Passed a.sf a.symbols.now
+passed : (c : lts.Past-After-enum_told tie.the-claims reads.Pre reads.Post) → let a = c.args in Entered Passed a.sf a.symbols.now
 passed c = rw c.in-Passed.is at c.enter-entry.ensures
 
 pub first_grid-grid-requires : goal.first_grid-grid-requires

@@ -15,12 +15,12 @@ abbrev settings : lts.After-count tie.the-claims reads.Pre reads.Post → Settin
 settings c = let a = c.args in record { sf = a.sf; low = a.low; kind = kind.Agreed a.length a.cr a.checked }
 
 -- what count has answered
-countable : (c : lts.After-counted2 tie.the-claims reads.Pre reads.Post) → Countable (settings c.before.before) c.args.length c.in-Symbols.count
+countable : (c : lts.Past-After-known_told2 tie.the-claims reads.Pre reads.Post) → Countable (settings c.before) c.args.length c.in-Symbols.count
 countable c = counted _ _ _ (sym c.count-counted.ensures ∙ c.in-Symbols.is)
 
 pub read_bare-requires : goal.read_bare-requires
 read_bare-requires c =
-    let k = countable c.before.before.before.before.before in
+    let k = countable c.before.before.before.before in
     rw c.frame_of.ensures (k.settings, refl, k.short, k.is)
 
 pub returns-in-Refused : goal.returns-in-Refused

@@ -10,7 +10,7 @@ use Rattle.lora.proofs.receiving.read_body.Lts as lts
 use Rattle.lora.proofs.receiving.read_body.Goals as goal
 
 -- the checks are passed
-passed : (c : lts.After-enum_told tie.the-claims reads.Pre reads.Post) → let a = c.args in
+passed : (c : lts.Past-After-enum_told tie.the-claims reads.Pre reads.Post) → let a = c.args in
     Admitted Passed a.f a.symbols.now (length a.out.now) (length a.hurts.now) a.len
 passed c = rw c.in-Passed.is at c.admit-entry.ensures
 

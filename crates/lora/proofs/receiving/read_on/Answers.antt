@@ -25,19 +25,19 @@ read_body-requires c =
       c.readings-readings.ensures,
       c.steps-steps.ensures,
       rw c.frame_of.ensures
-          (headed c.args.sf c.args.low _ _ (head-sound _ _ _ (sym (head-is c.before.before.before.before.before.before.before.before.before.before) ∙ says)) grid (opened.repaired _ says ∙ grid-repairs _ _ low grid) (opened.flipped _ says)),
+          (headed c.args.sf c.args.low _ _ (head-sound _ _ _ (sym (head-is c.before.before.before.before.before.before.before.before) ∙ says)) grid (opened.repaired _ says ∙ grid-repairs _ _ low grid) (opened.flipped _ says)),
     )
 
 pub returns-in-Refused : goal.returns-in-Refused
 unfolding read_of
-returns-in-Refused c = record { answer = rw (sym (head-is c.before.before.before.before) ∙ c.in-Refused.is); cells = refl; marks = refl }
+returns-in-Refused c = record { answer = rw (sym (head-is c.before.before) ∙ c.in-Refused.is); cells = refl; marks = refl }
 
 pub returns-in-Says : goal.returns-in-Says
 unfolding read_of
 returns-in-Says c =
     let b = rw c.frame_of.ensures at c.read_body.ensures in
     record {
-      answer = b.answer ∙ rw (sym (head-is c.before.before.before.before.before.before.before.before.before.before.before.before.before.before.before) ∙ c.in-Says.is);
+      answer = b.answer ∙ rw (sym (head-is c.before.before.before.before.before.before.before.before.before.before.before.before.before) ∙ c.in-Says.is);
       cells = b.cells ∙ bytes-said _ _ _ _ _ _ _ _ _ _ _ b.answer;
       marks = b.marks ∙ hurts-said _ _ _ _ _ _ _ _ _ _ _ b.answer;
     }

@@ -4,10 +4,10 @@ use borrow.Author.Tests.{not-true, not-false}
 use Rattle.layout.proofs.LayoutLaws.{symbols-le}
 use Rattle.lora.specs.Airtime.{airtime_of}
 use Rattle.lora.proofs.CountLaws.{Countable, counted, bandwidth-positive}
-use Rattle.lora.proofs.timing.airtime.Goals.{In-Symbols-2}
+use Rattle.lora.proofs.timing.airtime.Goals.{In-Symbols}
 use Rattle.lora.proofs.timing.airtime.Goals as goal
 
-countable : (c : In-Symbols-2) → let a = c.args in Countable a.s a.length c.in-Symbols.count
+countable : (c : In-Symbols) → let a = c.args in Countable a.s a.length c.in-Symbols.count
 countable c = counted _ _ _ (sym c.count-counted.ensures ∙ c.in-Symbols.is)
 
 pub returns-then-not-valid_bandwidth : goal.returns-then-not-valid_bandwidth
@@ -17,7 +17,7 @@ returns-then-not-valid_bandwidth c =
 
 pub microseconds-requires : goal.microseconds-requires
 microseconds-requires c =
-    let k = countable c.before.before.before in
+    let k = countable c.before.before in
     (k.settings.sf-high, rw k.is (symbols-le _ _ k.settings k.short), bandwidth-positive _ (sym c.valid_bandwidth.ensures ∙ not-false _ c.if-not-valid_bandwidth.false-raw))
 
 pub returns-in-Refused : goal.returns-in-Refused
