@@ -1,5 +1,4 @@
 use mathlib.Core.Path.{◌≡◌, ap, ◌∙◌}
-use mathlib.Core.Logic.{⊎_elim}
 use Prim.Native.Nat.{ℕ, ◌≤◌, ◌-◌, ◌^◌}
 use native.Mathlib.Omega.{arith}
 use lib.Dec.{leb}
@@ -8,6 +7,7 @@ use Rattle.bits.proofs.Searches.{none-start, none_here, none-on}
 use Rattle.lora.specs.Head.{is_over, first_over}
 use borrow.Author.Rules.{rules}
 use Rattle.lora.proofs.opening.none_over.Goals as goal
+use Rattle.lora.proofs.opening.none_over.Goals.{then-m-symbols, else-m-symbols}
 
 pub loop-i-init : goal.loop-i-init
 unfolding first_over is_over
@@ -22,9 +22,10 @@ loop-i-preserved c =
       l.invariant.0,
       search rules,
       search rules,
-      ⊎_elim (λ p. p.1 ∙ none_here (is_over a.sf a.symbols.now) a.from l.i l.invariant.1 (le-leb _ _ (rw l.invariant.0 at p.0.taken)))
-          (λ p. p.1 ∙ l.invariant.3 ∙ none-on (is_over a.sf a.symbols.now) a.from l.i l.invariant.1 (lt-leb _ _ (rw l.invariant.0 at p.0.left)))
-          c.if-m-symbols.branch,
+      elim c.if-m-symbols.branch [
+        then-m-symbols w ↦ w.none-is ∙ none_here (is_over a.sf a.symbols.now) a.from l.i l.invariant.1 (le-leb _ _ (rw l.invariant.0 at w.if-m-symbols.true))
+      | else-m-symbols w ↦ w.none-is ∙ l.invariant.3 ∙ none-on (is_over a.sf a.symbols.now) a.from l.i l.invariant.1 (lt-leb _ _ (rw l.invariant.0 at w.if-m-symbols.false))
+      ],
     )
 
 pub returns : goal.returns

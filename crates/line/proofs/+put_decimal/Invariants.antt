@@ -1,0 +1,5 @@
+-- Each call is for the number without its last digit.
+use Rattle.line.proofs.+put_decimal.Given as goal
+
+abbrev pub decreases-put_decimal : goal.decreases-put_decimal
+decreases-put_decimal l = l.n
