@@ -56,7 +56,7 @@ fn refused(scan: Scan) -> Scan
 // The open number, if any, goes behind the others; there is place for 837.
 fn close_number(scan: Scan, numbers: &mut [u16]) -> Scan
     requires sane { Sane scan numbers.old }
-    requires refused_value { scan.refused ≡ false }
+    requires going { scan.refused ≡ false }
     ensures { Holds (shut (state_of scan numbers.old)) result numbers.new }
 {
     let count = scan.count;
@@ -78,7 +78,7 @@ fn close_number(scan: Scan, numbers: &mut [u16]) -> Scan
 // A digit more of the open number: at most five, of a value of at most 65535.
 fn add_digit(scan: Scan, b: u8, numbers: &[u16]) -> Scan
     requires sane { Sane scan numbers.now }
-    requires le_b { 48 ≤ b }
+    requires digit { 48 ≤ b }
     ensures { Holds (grown (state_of scan numbers.now) b) result numbers.now }
 {
     let value = scan.value * 10 + (b as usize - 48);

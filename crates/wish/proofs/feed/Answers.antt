@@ -16,7 +16,7 @@ unfolding run
 loop-i-preserved c =
     let l = c.loop-i in
     let a = c.args in
-    (search rules, search rules, rw (← foldl-more step (state_of a.scan a.numbers.now) a.piece.now l.i 0 (omega arith), ← l.inv.2.is) c.take_byte-at.ensures)
+    (search rules, search rules, rw (← foldl-more step (state_of a.scan a.numbers.now) a.piece.now l.i 0 (omega arith), ← l.invariant.2.is) c.take_byte-at.ensures)
 
 pub returns : goal.returns
 returns c =

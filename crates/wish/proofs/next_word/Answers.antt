@@ -9,7 +9,7 @@ pub returns-then-b-eq32 : goal.returns-then-b-eq32
 unfolding next_word
 returns-then-b-eq32 c =
     let b = c.args.b in
-    rw (⊎_elim (λ w. is-space b w.taken) (λ w. is-line-end b w.1.taken) c.then-b-eq32.branch) c.shut_word.ensures
+    rw (⊎_elim (is-space b) (λ w. is-line-end b (eq-eqb b 10 w.1)) c.then-b-eq32.either) c.shut_word.ensures
 
 pub returns : goal.returns
 unfolding next_word
