@@ -7,7 +7,7 @@ use Rattle.show.proofs.put_entry.Goals as goal
 
 pub returns-in-Setting : goal.returns-in-Setting
 returns-in-Setting c =
-    rw (setting-line c.args.payload.now c.in-Setting.is c.number_of_lem.ensures c.wide.ensures c.wide-in-Setting.ensures) c.put_setting.ensures
+    rw (setting-line c.args.payload.now c.in-Setting.is c.number_of.ensures c.wide.ensures c.wide-in-Setting.ensures) c.put_setting.ensures
 
 pub returns-in-Frame : goal.returns-in-Frame
 returns-in-Frame c =

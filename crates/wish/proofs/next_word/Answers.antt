@@ -1,5 +1,6 @@
 -- `next_word` ends the word at a separator.
 -- Assumes nothing.
+use borrow.Author.Tests.{eq-eqb}
 use mathlib.Core.Logic.{⊎_elim}
 use Rattle.text.proofs.ScanLaws.{is-space, is-line-end, no-separator}
 use Rattle.wish.specs.Scan.{next_word}
