@@ -1,5 +1,5 @@
 -- Each column gains a bit at the bottom: a loop down from the last row.
-use mathlib.Core.Path.{◌≡◌, ◌∙◌}
+use mathlib.Core.Path.{◌≡◌}
 use Prim.Native.Nat.{◌≤◌}
 use Rattle.bits.specs.Tab.{over, blank}
 use Rattle.block.proofs.GridLoop.{column_from}

@@ -1,5 +1,4 @@
 -- Row i is bit i of each column, none from row n on: a loop over all twelve rows.
-use mathlib.Core.Path.{◌∙◌}
 use mathlib.Core.Bool.{false}
 use Prim.Native.Nat.{◌≤◌, ◌-◌}
 use Rattle.bits.specs.Tab.{blank}

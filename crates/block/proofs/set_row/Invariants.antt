@@ -1,5 +1,4 @@
 -- Cell j is bit i of column j: a loop over the row's eight cells.
-use mathlib.Core.Path.{◌∙◌}
 use Prim.Native.Nat.{◌≤◌, ◌-◌}
 use Rattle.bits.proofs.Fill.{Filled}
 use Rattle.block.proofs.GridLoop.{cell_of_columns}

@@ -1,5 +1,4 @@
 -- Word j is column j turned: a loop over the columns.
-use mathlib.Core.Path.{◌∙◌}
 use Prim.Native.Nat.{◌≤◌, ◌-◌}
 use Rattle.bits.specs.Tab.{blank}
 use Rattle.bits.proofs.Fill.{Filled}

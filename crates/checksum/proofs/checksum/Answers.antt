@@ -1,8 +1,7 @@
-use Prim.Native.Nat.{◌≤◌, ◌-◌}
-use mathlib.Core.Path.{◌≡◌, refl, sym, ◌∙◌}
+use mathlib.Core.Path.{refl, sym, ◌∙◌}
 use Rattle.bits.specs.Bit.{bit}
 use Rattle.bits.specs.Tab.{tab}
-use Rattle.checksum.specs.Checksum.{divisor, reduced, one_bit, low_bits, one_byte, remainder, checksum}
+use Rattle.checksum.specs.Checksum.{divisor, reduced, one_bit, low_bits, one_byte, checksum}
 use Rattle.checksum.specs.Table.{entry}
 use Rattle.checksum.proofs.ChecksumLaws.{remainder-more, remainder-end}
 use borrow.Author.Rules.{rules}

@@ -1,6 +1,6 @@
 -- A byte after the other through the table; the table is compared with the definition by computing it.
 use Prim.Native.Nat.{◌≤◌, ◌-◌}
-use mathlib.Core.Path.{◌≡◌, ◌∙◌}
+use mathlib.Core.Path.{◌≡◌}
 use lib.ListN.{length, drop}
 use Rattle.bits.specs.Tab.{tab}
 use Rattle.checksum.specs.Checksum.{remainder, checksum}

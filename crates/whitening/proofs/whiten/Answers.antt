@@ -1,7 +1,5 @@
 use mathlib.Core.Path.{ap₂}
-use Prim.Native.Nat.{◌-◌, ◌≤◌}
 use lib.Bits.{bit_xor}
-use lib.ListN.{get_or}
 use Rattle.bits.specs.Bit.{bit}
 use Rattle.bits.specs.Tab.{tab}
 use Rattle.bits.proofs.Tabs.{get_or-tab}
