@@ -1,7 +1,7 @@
 use mathlib.Core.Path.{refl}
 use mathlib.Core.Bool.{false}
 use mathlib.Core.List.{[]}
-use Prim.Native.Nat.{◌+◌, ◌-◌, ◌*◌, ◌≤◌, ◌<◌}
+use Prim.Native.Nat.{◌+◌, ◌-◌, ◌*◌, ◌<◌}
 use native.Mathlib.Omega.{arith}
 use lib.ListN.{length}
 use Rattle.bits.specs.Tab.{blank}
@@ -40,11 +40,11 @@ loop-i-preserved c =
     let room : l.i < length (blank 12 (blank 8 false)) = omega (arith, length-blank 12 (blank 8 false)) in (
       search rules,
       elim c.if-i-n.branch [
-        then-i-n w ↦
-          let nibble : w.wide-then-i-n.result < 16 = rw w.wide-then-i-n.ensures (search c.requires.3) in
-          rw w.g-is (filled_more l.invariant.1 room (row_read _ c.args.b.codeword c.args.b.rows _ l.i c.requires.2 w.if-i-n.true w.wide-then-i-n.ensures
-              (omega (arith, c.wide.ensures, nibble))))
-      | else-i-n w ↦ rw w.g-is (filled-skip [] l.invariant.1 room (row-blank _ c.args.b.codeword c.args.b.rows _ l.i w.if-i-n.false (omega arith)))
+        | then-i-n w ↦
+            let nibble : w.wide-then-i-n.result < 16 = rw w.wide-then-i-n.ensures (search c.requires.3) in
+            rw w.g-is (filled_more l.invariant.1 room (row_read _ c.args.b.codeword c.args.b.rows _ l.i c.requires.2 w.if-i-n.true w.wide-then-i-n.ensures
+            (omega (arith, c.wide.ensures, nibble))))
+        | else-i-n w ↦ rw w.g-is (filled-skip [] l.invariant.1 room (row-blank _ c.args.b.codeword c.args.b.rows _ l.i w.if-i-n.false (omega arith)))
       ],
     )
 

@@ -1,6 +1,6 @@
 -- Row i is the row of the code of nibble i, and blank outside the block: a loop over the 12 rows.
 use mathlib.Core.Bool.{false}
-use Prim.Native.Nat.{◌+◌, ◌-◌, ◌*◌, ◌≤◌, ◌<◌}
+use Prim.Native.Nat.{◌-◌, ◌≤◌}
 use Rattle.bits.specs.Tab.{blank}
 use Rattle.bits.proofs.Fill.{Filled}
 use Rattle.coding.proofs.CodingLoop.{row_from}

@@ -1,4 +1,3 @@
-use Prim.Native.Nat.{◌*◌, ◌≤◌, ◌-◌}
 use native.Mathlib.Omega.{arith}
 use Rattle.bits.proofs.Fill.{filled_at-none, filled_at-end}
 use Rattle.coding.proofs.NibbleLaws.{byte_more}

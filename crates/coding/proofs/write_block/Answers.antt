@@ -1,4 +1,3 @@
-use Prim.Native.Nat.{◌≤◌, ◌-◌}
 use native.Mathlib.Omega.{arith}
 use Rattle.bits.proofs.Fill.{filled_at-none, filled_at-more, filled_at-as}
 use Rattle.coding.proofs.CodingLoop.{symbol-made, value-small, word_small, symbol-of-words}

@@ -1,6 +1,6 @@
 -- The nibbles are laid out once, and the symbols written block by block: a loop over the blocks.
 use mathlib.Core.Path.{◌≡◌}
-use Prim.Native.Nat.{◌≤◌, ◌<◌, ◌-◌, ◌+◌}
+use Prim.Native.Nat.{◌≤◌, ◌-◌, ◌+◌}
 use lib.ListN.{length, get_or}
 use Rattle.bits.specs.Tab.{tab}
 use Rattle.bits.proofs.Fill.{Filled}

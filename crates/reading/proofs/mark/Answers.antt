@@ -1,6 +1,6 @@
 use native.Mathlib.Omega.{arith}
-use Prim.Native.Nat.{ℕ, suc, ◌≤◌, ◌-◌, ◌+◌}
-use mathlib.Core.Path.{◌≡◌, ap, ◌∙◌}
+use Prim.Native.Nat.{ℕ, suc}
+use mathlib.Core.Path.{ap, ◌∙◌}
 use Rattle.bits.specs.Bytes.{byte_at}
 use Rattle.bits.proofs.Fill.{filled_at-none, filled_at-more, filled_at-end}
 use Rattle.reading.specs.Stages.{bytes_of}

@@ -1,6 +1,6 @@
 -- Eight cells, one after the other: the bytes of the number, from the lowest on.
 use Prim.Native.Nat.{ℕ, ◌≤◌, ◌-◌, ◌+◌}
-use mathlib.Core.Path.{◌≡◌, ◌∙◌}
+use mathlib.Core.Path.{◌≡◌}
 use Rattle.bits.specs.Bytes.{byte_at}
 use Rattle.bits.proofs.Fill.{FilledAt}
 use Rattle.reading.specs.Stages.{bytes_of}

@@ -1,10 +1,9 @@
-use Prim.Native.Nat.{ℕ, ◌≤◌, ◌-◌}
+use Prim.Native.Nat.{ℕ}
 use mathlib.Core.Path.{◌∙◌}
 use native.Mathlib.Omega.{arith}
 use Rattle.bits.specs.Tab.{blank}
 use Rattle.bits.proofs.Tabs.{length-blank}
 use Rattle.bits.proofs.Fill.{filled_none, filled_more, filled-end}
-use Rattle.reading.specs.Payload.{byte_of_nibbles}
 use Rattle.reading.proofs.ReadingLaws.{whitened-payload}
 use borrow.Author.Rules.{rules}
 use Rattle.reading.proofs.payload_of_nibbles.Goals as goal

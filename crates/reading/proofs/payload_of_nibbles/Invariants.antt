@@ -1,6 +1,5 @@
 -- The bytes of the nibbles in order, whitened: a loop over the bytes.
 use Prim.Native.Nat.{◌≤◌, ◌-◌}
-use mathlib.Core.Path.{◌∙◌}
 use Rattle.bits.specs.Tab.{blank}
 use Rattle.bits.proofs.Fill.{Filled}
 use Rattle.reading.specs.Payload.{byte_of_nibbles}

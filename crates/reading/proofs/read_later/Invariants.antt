@@ -1,6 +1,5 @@
 -- The later blocks are read and marked one behind the other: a loop over them.
-use Prim.Native.Nat.{◌≤◌, ◌+◌, ◌-◌}
-use mathlib.Core.Path.{◌≡◌, ◌∙◌}
+use Prim.Native.Nat.{◌≤◌, ◌-◌}
 use Rattle.reading.proofs.LaterLaws.{Sofar}
 use Rattle.reading.proofs.read_later.Given as goal
 

@@ -1,4 +1,4 @@
-use Prim.Native.Nat.{ℕ, ◌≤◌, ◌<◌, ◌-◌, ◌+◌, ◌^◌, suc-le-suc}
+use Prim.Native.Nat.{ℕ, ◌<◌, ◌-◌, ◌+◌, ◌^◌, suc-le-suc}
 use mathlib.Core.Path.{◌≡◌, refl, sym, ap, ◌∙◌}
 use mathlib.Core.Bool.{false}
 use native.Mathlib.Omega.{arith}
@@ -16,7 +16,7 @@ use Rattle.reading.proofs.HurtLaws.{flips-more, flips-lt, rows-clean, rows-repai
 use Rattle.reading.proofs.RowLaws.{row_lt}
 use Rattle.reading.proofs.ReadLoop.{clear_none, clear-more, walk-stop, walk_end}
 use borrow.Author.Rules.{rules}
-use Rattle.reading.proofs.read_rows.Invariants.{repairs, unflipped}
+use Rattle.reading.proofs.read_rows.Invariants.{repairs}
 use Rattle.reading.proofs.read_rows.Goals.{After-codeword_of_grid-word, After-unreadable, After-wide-bit, After-wide-clean, Else-unreadable}
 use Rattle.reading.proofs.read_rows.Goals as goal
 
