@@ -11,7 +11,6 @@ mod storing;
 
 use day_write::Written;
 use keep::{News, Progress, Rows};
-use libc::{STDERR_FILENO, STDOUT_FILENO};
 use lora::Received;
 use system::{Got, Request};
 
@@ -19,6 +18,8 @@ use system::{Got, Request};
 const FILE: usize = 67603;
 // Room for a chunk of standard input, and for a file that is read back; a longer one is seen to be longer.
 const BUFFER: usize = 67604;
+// Room for any name that the system takes, whose paths have at most 4095 bytes.
+const NAME: usize = 4096;
 
 // What a read came to: the run goes on, the captures have ended, or a read failed behind so many whole lines.
 #[derive(Clone, Copy)]
@@ -29,19 +30,20 @@ enum Turn {
 }
 
 // Tells of a text that the file can't hold.
-fn tell(news: News, line: usize) {
+fn tell(rt: &HostRuntime, news: News, line: usize) {
     match news {
         News::Nothing => {}
         News::Told { number, place } => {
             let mut out = [0u8; 128];
             let n = keep::put_told(line, number, place, &mut out);
-            system::write_first(STDERR_FILENO, &out, n);
+            system::write_first(rt, &mut rt.stderr(), &out, n);
         }
     }
 }
 
 // Takes a chunk whole, text by text.
 fn take_chunk(
+    rt: &HostRuntime,
     progress: Progress,
     chunk: &[u8],
     numbers: &mut [u16],
@@ -62,13 +64,14 @@ fn take_chunk(
         let news = step.news;
         so_far = step.progress;
         at = step.at;
-        tell(news, so_far.lines);
+        tell(rt, news, so_far.lines);
     }
     so_far
 }
 
 // What a read gave: a chunk is taken, the end and a failure are told.
 fn take_got(
+    rt: &HostRuntime,
     got: Got,
     progress: Progress,
     buffer: &[u8],
@@ -83,6 +86,7 @@ fn take_got(
 {
     match got {
         Got::Bytes(n) => Turn::More(take_chunk(
+            rt,
             progress,
             &buffer[..n],
             numbers,
@@ -101,6 +105,7 @@ fn take_got(
 
 // Takes all of standard input. A proved loop has to end, so it counts its turns down from a number that no run uses up.
 fn take_all(
+    rt: &HostRuntime,
     buffer: &mut [u8],
     numbers: &mut [u16],
     settings: &mut [u8],
@@ -115,9 +120,9 @@ fn take_all(
     let mut turns = u64::MAX;
     while turns > 0 {
         turns -= 1;
-        let got = system::read_some(buffer);
+        let got = system::read_some(rt, buffer);
         let turn = take_got(
-            got, so_far, buffer, numbers, settings, frames, payloads, refused,
+            rt, got, so_far, buffer, numbers, settings, frames, payloads, refused,
         );
         match turn {
             Turn::More(next) => {
@@ -163,45 +168,46 @@ fn write(
 }
 
 // The line for entries that no file holds.
-fn say_refused(number: u8, place: usize) {
+fn say_refused(rt: &HostRuntime, number: u8, place: usize) {
     let mut out = [0u8; line::LINE];
     let n = line::write_line(Received::Refused { number, place }, b"", &mut out);
-    system::write_first(STDERR_FILENO, &out, n);
+    system::write_first(rt, &mut rt.stderr(), &out, n);
 }
 
 // The line that ends a run that kept its file.
-fn close(rows: Rows, told: usize) {
+fn close(rt: &HostRuntime, rows: Rows, told: usize) {
     let mut out = [0u8; 128];
     let n = keep::put_kept(rows, told, &mut out);
-    system::write_first(STDERR_FILENO, &out, n);
+    system::write_first(rt, &mut rt.stderr(), &out, n);
 }
 
 // The file goes to standard output where there is no name.
-fn print(file: &[u8]) -> bool {
-    let sent = system::write_all(STDOUT_FILENO, file);
+fn print(rt: &HostRuntime, file: &[u8]) -> bool {
+    let sent = system::write_all(rt, &mut rt.stdout(), file);
     if !sent.whole {
-        system::say_failure(b"not kept: writing", sent.error);
+        system::say_failure(rt, b"not kept: writing", sent.error);
     }
     sent.whole
 }
 
 // Whether the file was kept, under its name or without one.
-fn hand_on(name: &[u8], file: &[u8], back: &mut [u8]) -> bool {
+fn hand_on(rt: &HostRuntime, name: &[u8], file: &[u8], back: &mut [u8]) -> bool {
     if name.len() == 0 {
-        return print(file);
+        return print(rt, file);
     }
-    storing::store(name, file, back)
+    storing::store(rt, name, file, back)
 }
 
 // Hands the file on, and says at the end that it was kept.
-fn deliver(rows: Rows, told: usize, name: &[u8], file: &[u8], back: &mut [u8]) {
-    if hand_on(name, file, back) {
-        close(rows, told);
+fn deliver(rt: &HostRuntime, rows: Rows, told: usize, name: &[u8], file: &[u8], back: &mut [u8]) {
+    if hand_on(rt, name, file, back) {
+        close(rt, rows, told);
     }
 }
 
 // The end of the captures: the last text, and the file.
 fn finish(
+    rt: &HostRuntime,
     progress: Progress,
     numbers: &mut [u16],
     settings: &mut [u8],
@@ -216,22 +222,22 @@ fn finish(
     let step = keep::finish(progress, numbers, settings, frames, payloads, refused);
     let news = step.news;
     let last = step.progress;
-    tell(news, last.lines);
+    tell(rt, news, last.lines);
     let rows = last.rows;
     let mut file = [0u8; FILE];
     let written = write(rows, settings, frames, payloads, refused, &mut file);
     match written {
         Written::Refused { number, place } => {
-            say_refused(number, place);
+            say_refused(rt, number, place);
         }
         Written::Length { bytes } => {
-            deliver(rows, last.told, name, &file[..bytes], back);
+            deliver(rt, rows, last.told, name, &file[..bytes], back);
         }
     }
 }
 
 // Keeps the day under a name, or without one on standard output.
-fn run(name: &[u8]) {
+fn run(rt: &HostRuntime, name: &[u8]) {
     let mut numbers = [0u16; text::NUMBERS];
     let mut settings = [0u8; keep::SETTINGS];
     let mut frames = [0u16; keep::FRAMES];
@@ -239,6 +245,7 @@ fn run(name: &[u8]) {
     let mut refused = [0u16; keep::REFUSED];
     let mut buffer = [0u8; BUFFER];
     let turn = take_all(
+        rt,
         &mut buffer,
         &mut numbers,
         &mut settings,
@@ -250,6 +257,7 @@ fn run(name: &[u8]) {
         Turn::More(_) => {}
         Turn::Ended(last) => {
             finish(
+                rt,
                 last,
                 &mut numbers,
                 &mut settings,
@@ -261,14 +269,15 @@ fn run(name: &[u8]) {
             );
         }
         Turn::Unread { lines, error } => {
-            system::say_unkept(error, lines);
+            system::say_unkept(rt, error, lines);
         }
     }
 }
 
-fn help() {
+fn help(rt: &HostRuntime) {
     system::write_all(
-        STDOUT_FILENO,
+        rt,
+        &mut rt.stdout(),
         b"\
 day_keep < captures > file
 day_keep NAME < captures
@@ -283,21 +292,24 @@ day_show shows what a file has.
     );
 }
 
-fn main() {
-    let mut name = [0u8; libc::PATH_MAX];
-    let request = system::argument(&mut name);
+fn main(rt: HostRuntime) {
+    let mut name = [0u8; NAME];
+    let request = system::argument(&rt, &mut name);
     match request {
         Request::Plain => {
-            run(&name[..0]);
+            run(&rt, &name[..0]);
         }
         Request::Name(n) => {
-            run(&name[..n]);
+            run(&rt, &name[..n]);
         }
         Request::Help => {
-            help();
+            help(&rt);
         }
         Request::Other => {
-            system::say(b"day_keep takes a file's name, --help, or no argument\n");
+            system::say(
+                &rt,
+                b"day_keep takes a file's name, --help, or no argument\n",
+            );
         }
     }
 }

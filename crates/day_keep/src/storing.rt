@@ -3,9 +3,12 @@
 ghost use Rattle.day_keep.specs.Storing.{Same, Checked, CheckedBack};
 
 use day::Verdict;
-use libc::ENOENT;
+use std::fs::File;
 use system::files;
 use system::files::{Contents, Done, Opened};
+
+// The system's number for a name that nothing has.
+const ENOENT: usize = 2;
 
 // What was being done when something failed.
 #[derive(Clone, Copy)]
@@ -53,15 +56,15 @@ fn same(a: &[u8], b: &[u8]) -> bool
 }
 
 // Whether an open file has these bytes. One that has them is synced: the run that made it may have been cut short.
-fn compare(fd: i32, file: &[u8], back: &mut [u8]) -> Found {
-    let contents = files::read_whole(fd, back);
+fn compare(rt: &HostRuntime, opened: &mut File, file: &[u8], back: &mut [u8]) -> Found {
+    let contents = files::read_whole(rt, opened, back);
     match contents {
         Contents::Failed(error) => Found::Failed(error),
         Contents::Bytes(n) => {
             if !same(file, &back[..n]) {
                 return Found::Other;
             }
-            let synced = files::sync(fd);
+            let synced = files::sync(opened);
             match synced {
                 Done::Well => Found::Same,
                 Done::Failed(error) => Found::Failed(error),
@@ -70,19 +73,18 @@ fn compare(fd: i32, file: &[u8], back: &mut [u8]) -> Found {
     }
 }
 
-fn look(name: &[u8], file: &[u8], back: &mut [u8]) -> Found {
-    let opened = files::open(name);
-    match opened {
+fn look(rt: &HostRuntime, name: &[u8], file: &[u8], back: &mut [u8]) -> Found {
+    match files::open(rt, name) {
         Opened::Failed(error) => {
-            if error == ENOENT as usize {
+            if error == ENOENT {
                 Found::Nothing
             } else {
                 Found::Failed(error)
             }
         }
-        Opened::File(fd) => {
-            let found = compare(fd, file, back);
-            files::close(fd);
+        Opened::File(mut opened) => {
+            let found = compare(rt, &mut opened, file, back);
+            files::close(opened);
             found
         }
     }
@@ -109,10 +111,10 @@ fn judge(file: &[u8], read: &[u8]) -> Kept
     }
 }
 
-fn read_back(fd: i32, file: &[u8], back: &mut [u8]) -> Kept
+fn read_back(rt: &HostRuntime, opened: &mut File, file: &[u8], back: &mut [u8]) -> Kept
     ensures { CheckedBack result file.now back.new }
 {
-    let contents = files::read_whole(fd, back);
+    let contents = files::read_whole(rt, opened, back);
     match contents {
         Contents::Failed(error) => Kept::Failed {
             step: Step::Reading,
@@ -138,28 +140,28 @@ fn is_well(done: Done) -> bool {
 }
 
 // Writes the file, and reads it back when it is on the disk.
-fn fill(fd: i32, file: &[u8], back: &mut [u8]) -> Kept {
-    let sent = system::write_all(fd, file);
+fn fill(rt: &HostRuntime, opened: &mut File, file: &[u8], back: &mut [u8]) -> Kept {
+    let sent = system::write_all(rt, opened, file);
     if !sent.whole {
         return Kept::Failed {
             step: Step::Writing,
             error: sent.error,
         };
     }
-    let shared = files::share(fd);
+    let shared = files::share(opened);
     if !is_well(shared) {
         return after(shared, Step::Writing, Kept::Whole);
     }
-    let synced = files::sync(fd);
+    let synced = files::sync(opened);
     if !is_well(synced) {
         return after(synced, Step::Syncing, Kept::Whole);
     }
-    read_back(fd, file, back)
+    read_back(rt, opened, file, back)
 }
 
-fn fill_and_close(fd: i32, file: &[u8], back: &mut [u8]) -> Kept {
-    let filled = fill(fd, file, back);
-    let closed = files::close(fd);
+fn fill_and_close(rt: &HostRuntime, mut opened: File, file: &[u8], back: &mut [u8]) -> Kept {
+    let filled = fill(rt, &mut opened, file, back);
+    let closed = files::close(opened);
     match filled {
         Kept::Whole => after(closed, Step::Writing, Kept::Whole),
         Kept::Other => Kept::Other,
@@ -169,14 +171,14 @@ fn fill_and_close(fd: i32, file: &[u8], back: &mut [u8]) -> Kept {
 }
 
 // The file stands under its name; its folder is synced too.
-fn settle(name: &[u8]) -> Kept {
-    after(files::sync_folder(name), Step::Folder, Kept::Whole)
+fn settle(rt: &HostRuntime, name: &[u8]) -> Kept {
+    after(files::sync_folder(rt, name), Step::Folder, Kept::Whole)
 }
 
 // What comes of a name that is taken.
-fn taken(found: Found, name: &[u8]) -> Kept {
+fn taken(rt: &HostRuntime, found: Found, name: &[u8]) -> Kept {
     match found {
-        Found::Nothing | Found::Same => settle(name),
+        Found::Nothing | Found::Same => settle(rt, name),
         Found::Other => Kept::Other,
         Found::Failed(error) => Kept::Failed {
             step: Step::Looking,
@@ -186,94 +188,103 @@ fn taken(found: Found, name: &[u8]) -> Kept {
 }
 
 // Gives the file its name. The name is looked at once more right before, since another run may have taken it.
-fn name_file(path: &[u8], name: &[u8], file: &[u8], back: &mut [u8]) -> Kept {
-    let found = look(name, file, back);
+fn name_file(rt: &HostRuntime, path: &[u8], name: &[u8], file: &[u8], back: &mut [u8]) -> Kept {
+    let found = look(rt, name, file, back);
     let Found::Nothing = found else {
-        files::remove(path);
-        return taken(found, name);
+        files::remove(rt, path);
+        return taken(rt, found, name);
     };
-    let renamed = files::rename(path, name);
+    let renamed = files::rename(rt, path, name);
     if is_well(renamed) {
-        return settle(name);
+        return settle(rt, name);
     }
-    files::remove(path);
+    files::remove(rt, path);
     after(renamed, Step::Naming, Kept::Whole)
 }
 
-fn place(filled: Kept, path: &[u8], name: &[u8], file: &[u8], back: &mut [u8]) -> Kept {
+fn place(
+    rt: &HostRuntime,
+    filled: Kept,
+    path: &[u8],
+    name: &[u8],
+    file: &[u8],
+    back: &mut [u8],
+) -> Kept {
     let Kept::Whole = filled else {
-        files::remove(path);
+        files::remove(rt, path);
         return filled;
     };
-    name_file(path, name, file, back)
+    name_file(rt, path, name, file, back)
 }
 
-fn make(name: &[u8], file: &[u8], back: &mut [u8]) -> Kept {
+fn make(rt: &HostRuntime, name: &[u8], file: &[u8], back: &mut [u8]) -> Kept {
     let mut path = [0u8; 4104];
-    let temporary = files::make_beside(name, &mut path);
-    let opened = temporary.opened;
+    let temporary = files::make_beside(rt, name, &mut path);
     let n = temporary.name;
-    match opened {
+    match temporary.opened {
         Opened::Failed(error) => Kept::Failed {
             step: Step::Making,
             error,
         },
-        Opened::File(fd) => {
-            let filled = fill_and_close(fd, file, back);
-            place(filled, &path[..n], name, file, back)
+        Opened::File(opened) => {
+            let filled = fill_and_close(rt, opened, file, back);
+            place(rt, filled, &path[..n], name, file, back)
         }
     }
 }
 
-fn keep(name: &[u8], file: &[u8], back: &mut [u8]) -> Kept {
-    let found = look(name, file, back);
+fn keep(rt: &HostRuntime, name: &[u8], file: &[u8], back: &mut [u8]) -> Kept {
+    let found = look(rt, name, file, back);
     let Found::Nothing = found else {
-        return taken(found, name);
+        return taken(rt, found, name);
     };
-    make(name, file, back)
+    make(rt, name, file, back)
 }
 
-fn say_failed(step: Step, error: usize) {
+fn say_failed(rt: &HostRuntime, step: Step, error: usize) {
     match step {
         Step::Looking => {
-            system::say_failure(b"not kept: reading the file of that name", error);
+            system::say_failure(rt, b"not kept: reading the file of that name", error);
         }
         Step::Making => {
-            system::say_failure(b"not kept: making a file beside it", error);
+            system::say_failure(rt, b"not kept: making a file beside it", error);
         }
         Step::Writing => {
-            system::say_failure(b"not kept: writing", error);
+            system::say_failure(rt, b"not kept: writing", error);
         }
         Step::Syncing => {
-            system::say_failure(b"not kept: syncing", error);
+            system::say_failure(rt, b"not kept: syncing", error);
         }
         Step::Reading => {
-            system::say_failure(b"not kept: reading back", error);
+            system::say_failure(rt, b"not kept: reading back", error);
         }
         Step::Naming => {
-            system::say_failure(b"not kept: renaming", error);
+            system::say_failure(rt, b"not kept: renaming", error);
         }
         Step::Folder => {
-            system::say_failure(b"not kept: syncing the folder", error);
+            system::say_failure(rt, b"not kept: syncing the folder", error);
         }
     }
 }
 
 // Keeps the file under its name, and says why where it could not.
-pub fn store(name: &[u8], file: &[u8], back: &mut [u8]) -> bool {
-    let kept = keep(name, file, back);
+pub fn store(rt: &HostRuntime, name: &[u8], file: &[u8], back: &mut [u8]) -> bool {
+    let kept = keep(rt, name, file, back);
     match kept {
         Kept::Whole => true,
         Kept::Other => {
-            system::say(b"not kept: the file of that name has other bytes\n");
+            system::say(rt, b"not kept: the file of that name has other bytes\n");
             false
         }
         Kept::Changed => {
-            system::say(b"not kept: what was read back is not what was written\n");
+            system::say(
+                rt,
+                b"not kept: what was read back is not what was written\n",
+            );
             false
         }
         Kept::Failed { step, error } => {
-            say_failed(step, error);
+            say_failed(rt, step, error);
             false
         }
     }

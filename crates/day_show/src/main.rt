@@ -4,7 +4,6 @@
 ghost use Rattle.std.specs.Prelude.{◌≤◌, length};
 ghost use Rattle.day_show.specs.Turns.{Behind, Within};
 
-use libc::STDOUT_FILENO;
 use system::{Asked, Got};
 
 // What reading came to: so many bytes at the buffer's front, or a failure with the system's number for it.
@@ -15,16 +14,16 @@ enum Taken {
 }
 
 // One read, behind so many bytes.
-fn read_behind(file: &mut [u8], done: usize) -> Got
+fn read_behind(rt: &HostRuntime, file: &mut [u8], done: usize) -> Got
     requires { done ≤ length file.old }
     ensures { Behind result done file.new }
 {
-    system::read_some(&mut file[done..])
+    system::read_some(rt, &mut file[done..])
 }
 
 // Reads until the input ends or the buffer is full. A proved loop has to end, so it counts its turns down from a number that no
 // run uses up.
-fn take(file: &mut [u8]) -> Taken
+fn take(rt: &HostRuntime, file: &mut [u8]) -> Taken
     ensures { Within result file.new }
 {
     let mut done = 0;
@@ -34,7 +33,7 @@ fn take(file: &mut [u8]) -> Taken
         if done == file.len() {
             return Taken::Bytes(done);
         }
-        match read_behind(file, done) {
+        match read_behind(rt, file, done) {
             Got::Bytes(n) => {
                 done += n;
             }
@@ -50,30 +49,31 @@ fn take(file: &mut [u8]) -> Taken
 }
 
 // Shows the file's bytes, and says so where not all could be written.
-fn show(bytes: &[u8]) {
+fn show(rt: &HostRuntime, bytes: &[u8]) {
     let mut out = [0u8; 65536];
-    let shown = showing::show(bytes, &mut out);
+    let shown = showing::show(rt, bytes, &mut out);
     let sent = shown.sent;
     if !sent.whole {
-        system::say_unwritten(sent.error, shown.lines);
+        system::say_unwritten(rt, sent.error, shown.lines);
     }
 }
 
-fn run() {
+fn run(rt: &HostRuntime) {
     let mut file = [0u8; showing::FILE];
-    match take(&mut file) {
+    match take(rt, &mut file) {
         Taken::Bytes(n) => {
-            show(&file[..n]);
+            show(rt, &file[..n]);
         }
         Taken::Failed(error) => {
-            system::say_failed(error);
+            system::say_failed(rt, error);
         }
     }
 }
 
-fn help() {
+fn help(rt: &HostRuntime) {
     system::write_all(
-        STDOUT_FILENO,
+        rt,
+        &mut rt.stdout(),
         b"\
 day_show < file
 
@@ -89,17 +89,17 @@ nothing is shown but the one line
     );
 }
 
-fn main() {
-    let asked = system::arguments();
+fn main(rt: HostRuntime) {
+    let asked = system::arguments(&rt);
     match asked {
         Asked::Work => {
-            run();
+            run(&rt);
         }
         Asked::Help => {
-            help();
+            help(&rt);
         }
         Asked::Other => {
-            system::say(b"day_show takes no argument but --help\n");
+            system::say(&rt, b"day_show takes no argument but --help\n");
         }
     }
 }

@@ -9,8 +9,9 @@ mod rules;
 
 // A figure on a line: what it is | ours | the document's. A number of ours stands as # in decimal and as $ in hexadecimal, and
 // behind each of the document's stands ;. One that the document has as a matrix only stands as @.
-fn main() {
+fn main(rt: HostRuntime) {
     print::figures(
+        &rt,
         b"01, and 001 the first 8: SF 11, payload 00 00, CR 1, flag on | # # # # # # # # # # # # # | \
 1692; 648; 348; 160; 400; 1748; 1124; 1136; 0; 0; 0; 0; 0;
 01: airtime of that, n = 8, 125 kHz, milliseconds and microseconds | # # | 413; 696;

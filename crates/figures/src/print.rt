@@ -12,24 +12,21 @@ struct Place {
     same: bool,
 }
 
-fn put(c: u8) {
-    io::write_all(1, &[c]);
+fn put(rt: &impl Print, c: u8) {
+    let _ = rt.write_all(&[c]);
 }
 
-fn number(n: usize, hex: bool) {
-    if hex {
-        io::print_hex(1, n as u64, 2);
+fn number(rt: &impl Print, n: usize, hex: bool) {
+    let _ = if hex {
+        print!(rt; "{n:02x}")
     } else {
-        io::print_decimal(1, n as u64);
-    }
+        print!(rt; "{n}")
+    };
 }
 
-fn verdict(same: bool) {
-    if same {
-        io::write_all(1, b" | agrees\n");
-    } else {
-        io::write_all(1, b" | differs\n");
-    }
+fn verdict(rt: &impl Print, same: bool) {
+    let words = if same { " | agrees" } else { " | differs" };
+    let _ = println!(rt; "{words}");
 }
 
 // A number with one more digit, 0 to 9 or a to f.
@@ -44,21 +41,21 @@ fn longer(number: usize, hex: bool, c: u8) -> usize {
 
 // Writes what a byte of the text stands for, and goes on to the next. What is read as digits before a bar is no number of the
 // document's: the bar forgets it.
-fn step(mut p: Place, c: u8) -> Place {
+fn step(rt: &impl Print, mut p: Place, c: u8) -> Place {
     match c {
         b'#' | b'$' => {
             p.hex = c == b'$';
-            number(lines::ours(p.line, p.entry), p.hex);
+            number(rt, lines::ours(p.line, p.entry), p.hex);
             p.entry = p.entry % 256 + 1;
         }
         b'@' => {
             p.number = matrices::checks(p.entry);
-            number(p.number, true);
+            number(rt, p.number, true);
         }
         b'|' => {
             p.entry = 0;
             p.number = 0;
-            put(c);
+            put(rt, c);
         }
         b';' => {
             p.same = p.same & (p.number == lines::ours(p.line, p.entry));
@@ -66,19 +63,19 @@ fn step(mut p: Place, c: u8) -> Place {
             p.number = 0;
         }
         b'\n' => {
-            verdict(p.same);
+            verdict(rt, p.same);
             p.line = p.line % 256 + 1;
             p.same = true;
         }
         _ => {
             p.number = longer(p.number, p.hex, c);
-            put(c);
+            put(rt, c);
         }
     }
     p
 }
 
-pub fn figures(text: &[u8]) {
+pub fn figures(rt: &impl Print, text: &[u8]) {
     let mut place = Place {
         line: 0,
         entry: 0,
@@ -87,6 +84,6 @@ pub fn figures(text: &[u8]) {
         same: true,
     };
     for i in 0..text.len() {
-        place = step(place, text[i]);
+        place = step(rt, place, text[i]);
     }
 }

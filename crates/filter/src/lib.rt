@@ -9,7 +9,6 @@ ghost use Rattle.panel.specs.Counts.{closing_line};
 ghost use Rattle.system.specs.Calls.{Within, Handed, Printing};
 ghost use Rattle.filter.specs.Turns.{is_more, OnChunk, Follows, Finished};
 
-use libc::{STDERR_FILENO, STDOUT_FILENO};
 use lines::Progress;
 use panel::Counts;
 use system::{Got, Sent};
@@ -59,6 +58,7 @@ struct Part {
 
 // Takes a chunk from a place on, as far as the room for answers goes, and writes the answers out.
 fn answer_part(
+    rt: &HostRuntime,
     progress: Progress,
     chunk: &[u8],
     at: usize,
@@ -74,7 +74,7 @@ fn answer_part(
         progress: next,
         at: step.at,
         used: step.used,
-        sent: system::write_first(STDOUT_FILENO, out, step.used),
+        sent: system::write_first(rt, &mut rt.stdout(), out, step.used),
     }
 }
 
@@ -86,7 +86,13 @@ fn whole(before: usize, out: &[u8], sent: Sent) -> usize
 }
 
 // Takes a chunk whole, part by part, unless a write fails.
-fn answer_chunk(progress: Progress, chunk: &[u8], numbers: &mut [u16], out: &mut [u8]) -> After
+fn answer_chunk(
+    rt: &HostRuntime,
+    progress: Progress,
+    chunk: &[u8],
+    numbers: &mut [u16],
+    out: &mut [u8],
+) -> After
     requires { SanePiece progress.piece numbers.old × (17600 ≤ length out.old) }
     ensures { OnChunk result.turn result.progress (point_of progress numbers.old) chunk.now numbers.new }
 {
@@ -94,7 +100,7 @@ fn answer_chunk(progress: Progress, chunk: &[u8], numbers: &mut [u16], out: &mut
     let mut at = 0;
     while at < chunk.len() {
         let counts = so_far.counts;
-        let part = answer_part(so_far, chunk, at, numbers, out);
+        let part = answer_part(rt, so_far, chunk, at, numbers, out);
         let sent = part.sent;
         if !sent.whole {
             return After {
@@ -116,6 +122,7 @@ fn answer_chunk(progress: Progress, chunk: &[u8], numbers: &mut [u16], out: &mut
 
 // What a read gave: a chunk is taken, the end is told, a failure makes up no answer.
 fn answer_got(
+    rt: &HostRuntime,
     got: Got,
     progress: Progress,
     buffer: &[u8],
@@ -126,7 +133,7 @@ fn answer_got(
     ensures { Follows result.turn result.progress got progress (point_of progress numbers.old) buffer.now numbers.new }
 {
     match got {
-        Got::Bytes(n) => answer_chunk(progress, &buffer[..n], numbers, out),
+        Got::Bytes(n) => answer_chunk(rt, progress, &buffer[..n], numbers, out),
         Got::End => After {
             progress,
             turn: Turn::Ended,
@@ -145,7 +152,13 @@ fn answer_got(
 }
 
 // Takes all of standard input. A proved loop has to end, so it counts its turns down from a number that no run uses up.
-fn take_all(progress: Progress, buffer: &mut [u8], numbers: &mut [u16], out: &mut [u8]) -> After
+fn take_all(
+    rt: &HostRuntime,
+    progress: Progress,
+    buffer: &mut [u8],
+    numbers: &mut [u16],
+    out: &mut [u8],
+) -> After
     requires { SanePiece progress.piece numbers.old × (17600 ≤ length out.old) }
     ensures { Finished result.turn result.progress (point_of progress numbers.old) numbers.new }
 {
@@ -153,8 +166,8 @@ fn take_all(progress: Progress, buffer: &mut [u8], numbers: &mut [u16], out: &mu
     let mut turns = u64::MAX;
     while turns > 0 {
         turns -= 1;
-        let got = system::read_some(buffer);
-        let after = answer_got(got, so_far, buffer, numbers, out);
+        let got = system::read_some(rt, buffer);
+        let after = answer_got(rt, got, so_far, buffer, numbers, out);
         let turn = after.turn;
         if !goes_on(turn) {
             return after;
@@ -180,7 +193,7 @@ struct Last {
 }
 
 // Answers the last piece, unless it is empty, and writes what stands behind all answers.
-fn answer_last(progress: Progress, numbers: &mut [u16], out: &mut [u8]) -> Last
+fn answer_last(rt: &HostRuntime, progress: Progress, numbers: &mut [u16], out: &mut [u8]) -> Last
     requires { SanePiece progress.piece numbers.old × (18600 ≤ length out.old) }
     ensures { (result.counts ≡ (ended (point_of progress numbers.old)).counts) × Put 0 (last_said (point_of progress numbers.old)) out.old out.new result.used × Handed result.used result.sent }
 {
@@ -190,55 +203,55 @@ fn answer_last(progress: Progress, numbers: &mut [u16], out: &mut [u8]) -> Last
     Last {
         counts,
         used: closed.used,
-        sent: system::write_first(STDOUT_FILENO, out, closed.used),
+        sent: system::write_first(rt, &mut rt.stdout(), out, closed.used),
     }
 }
 
 // The closing line, by which whoever started the run knows that it is whole.
-fn close(counts: Counts, out: &mut [u8]) -> Sent
+fn close(rt: &HostRuntime, counts: Counts, out: &mut [u8]) -> Sent
     requires { 100 ≤ length out.old }
     ensures { Printing (closing_line counts) out.new result }
 {
     let n = panel::closing(counts, out);
-    system::write_first(STDERR_FILENO, out, n)
+    system::write_first(rt, &mut rt.stderr(), out, n)
 }
 
 // The line for a read that failed.
-fn say_unread(tallies: bool, error: usize, answers: usize) {
+fn say_unread(rt: &HostRuntime, tallies: bool, error: usize, answers: usize) {
     if tallies {
-        system::say_no_panel(error, answers);
+        system::say_no_panel(rt, error, answers);
     } else {
-        system::say_unread(error, answers);
+        system::say_unread(rt, error, answers);
     }
 }
 
 // The line for a write that failed.
-fn say_unwritten(tallies: bool, error: usize, answers: usize) {
+fn say_unwritten(rt: &HostRuntime, tallies: bool, error: usize, answers: usize) {
     if tallies {
-        system::say_panel_cut(error);
+        system::say_panel_cut(rt, error);
     } else {
-        system::say_unwritten(error, answers);
+        system::say_unwritten(rt, error, answers);
     }
 }
 
 // The end of the input: the last piece, and the closing line if all was written.
-fn finish(progress: Progress, numbers: &mut [u16], out: &mut [u8])
+fn finish(rt: &HostRuntime, progress: Progress, numbers: &mut [u16], out: &mut [u8])
     requires { SanePiece progress.piece numbers.old × (18600 ≤ length out.old) }
 {
     let piece = progress.piece;
     let before = progress.counts;
-    let last = answer_last(progress, numbers, out);
+    let last = answer_last(rt, progress, numbers, out);
     let sent = last.sent;
     if sent.whole {
         let counts = last.counts;
-        close(counts, out);
+        close(rt, counts, out);
     } else {
-        say_unwritten(lines::is_tally(piece), sent.error, before.texts);
+        say_unwritten(rt, lines::is_tally(piece), sent.error, before.texts);
     }
 }
 
 // Answers all of standard input.
-pub fn run(progress: Progress)
+pub fn run(rt: &HostRuntime, progress: Progress)
     requires { Ready progress }
 {
     let mut numbers = [0u16; text::NUMBERS];
@@ -246,19 +259,19 @@ pub fn run(progress: Progress)
     let mut out = [0u8; 65536];
     let piece = progress.piece;
     let tallies = lines::is_tally(piece);
-    let after = take_all(progress, &mut buffer, &mut numbers, &mut out);
+    let after = take_all(rt, progress, &mut buffer, &mut numbers, &mut out);
     let last = after.progress;
     let turn = after.turn;
     match turn {
         Turn::More => {}
         Turn::Ended => {
-            finish(last, &mut numbers, &mut out);
+            finish(rt, last, &mut numbers, &mut out);
         }
         Turn::Unread { answers, error } => {
-            say_unread(tallies, error, answers);
+            say_unread(rt, tallies, error, answers);
         }
         Turn::Unwritten { answers, error } => {
-            say_unwritten(tallies, error, answers);
+            say_unwritten(rt, tallies, error, answers);
         }
     }
 }

@@ -2,12 +2,12 @@
 // line that lora_lines reads, in order. An empty last piece is none.
 #![tactic(auto)]
 
-use libc::STDOUT_FILENO;
 use system::Asked;
 
-fn help() {
+fn help(rt: &HostRuntime) {
     system::write_all(
-        STDOUT_FILENO,
+        rt,
+        &mut rt.stdout(),
         b"\
 lora_code < wishes > captures
 
@@ -24,17 +24,17 @@ run off.
     );
 }
 
-fn main() {
-    let asked = system::arguments();
+fn main(rt: HostRuntime) {
+    let asked = system::arguments(&rt);
     match asked {
         Asked::Work => {
-            filter::run(lines::wishes());
+            filter::run(&rt, lines::wishes());
         }
         Asked::Help => {
-            help();
+            help(&rt);
         }
         Asked::Other => {
-            system::say(b"lora_code takes no argument but --help\n");
+            system::say(&rt, b"lora_code takes no argument but --help\n");
         }
     }
 }

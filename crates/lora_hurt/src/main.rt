@@ -2,12 +2,12 @@
 // capture, as lora_lines takes it, answered by one line, in order. An empty last piece is none.
 #![tactic(auto)]
 
-use libc::STDOUT_FILENO;
 use system::Asked;
 
-fn help() {
+fn help(rt: &HostRuntime) {
     system::write_all(
-        STDOUT_FILENO,
+        rt,
+        &mut rt.stdout(),
         b"\
 lora_hurt < captures > hurts
 
@@ -22,17 +22,17 @@ if over 4294967295 frames were heard and so not all were counted, and else says 
     );
 }
 
-fn main() {
-    let asked = system::arguments();
+fn main(rt: HostRuntime) {
+    let asked = system::arguments(&rt);
     match asked {
         Asked::Work => {
-            filter::run(lines::hurts());
+            filter::run(&rt, lines::hurts());
         }
         Asked::Help => {
-            help();
+            help(&rt);
         }
         Asked::Other => {
-            system::say(b"lora_hurt takes no argument but --help\n");
+            system::say(&rt, b"lora_hurt takes no argument but --help\n");
         }
     }
 }

@@ -6,7 +6,6 @@ ghost use Rattle.system.specs.Calls.{Within, Printing};
 ghost use Rattle.text.specs.Scan.{Sane, state_of, line_at};
 ghost use Rattle.lora_read.specs.Turns.{Follows, Finished};
 
-use libc::STDOUT_FILENO;
 use system::{Asked, Got, Sent};
 use text::Scan;
 
@@ -31,7 +30,7 @@ fn take_got(got: Got, scan: Scan, buffer: &[u8], numbers: &mut [u16]) -> Turn
 }
 
 // Takes the whole text. A proved loop has to end, so it counts its turns down from a number that no run uses up.
-fn take_all(buffer: &mut [u8], numbers: &mut [u16]) -> Turn
+fn take_all(rt: &HostRuntime, buffer: &mut [u8], numbers: &mut [u16]) -> Turn
     requires { length numbers.old ≡ 837 }
     ensures { Finished result numbers.new }
 {
@@ -39,7 +38,7 @@ fn take_all(buffer: &mut [u8], numbers: &mut [u16]) -> Turn
     let mut turns = u64::MAX;
     while turns > 0 {
         turns -= 1;
-        let got = system::read_some(buffer);
+        let got = system::read_some(rt, buffer);
         let turn = take_got(got, scan, buffer, numbers);
         match turn {
             Turn::More(next) => {
@@ -57,12 +56,12 @@ fn take_all(buffer: &mut [u8], numbers: &mut [u16]) -> Turn
 }
 
 // Writes the answer to the text that was taken.
-fn print(scan: Scan, numbers: &mut [u16], line: &mut [u8]) -> Sent
+fn print(rt: &HostRuntime, scan: Scan, numbers: &mut [u16], line: &mut [u8]) -> Sent
     requires { Sane scan numbers.old × (640 ≤ length line.old) }
     ensures { Printing (line_at (state_of scan numbers.old)) line.new result }
 {
     let answer = text::answer(scan, numbers, line);
-    system::write_first(STDOUT_FILENO, line, answer.length)
+    system::write_first(rt, &mut rt.stdout(), line, answer.length)
 }
 
 // A text that can't be taken, as one is whose reading failed.
@@ -78,35 +77,36 @@ fn failed() -> Scan
 }
 
 // Prints the answer, and says so where it could not be written.
-fn answer(scan: Scan, numbers: &mut [u16])
+fn answer(rt: &HostRuntime, scan: Scan, numbers: &mut [u16])
     requires { Sane scan numbers.old }
 {
     let mut line = [0u8; line::LINE];
-    let sent = print(scan, numbers, &mut line);
+    let sent = print(rt, scan, numbers, &mut line);
     if !sent.whole {
-        system::say_unwritten(sent.error, 0);
+        system::say_unwritten(rt, sent.error, 0);
     }
 }
 
-fn run() {
+fn run(rt: &HostRuntime) {
     let mut numbers = [0u16; text::NUMBERS];
     let mut buffer = [0u8; 65536];
-    let turn = take_all(&mut buffer, &mut numbers);
+    let turn = take_all(rt, &mut buffer, &mut numbers);
     match turn {
         Turn::More(_) => {}
         Turn::Ended(scan) => {
-            answer(scan, &mut numbers);
+            answer(rt, scan, &mut numbers);
         }
         Turn::Unread(error) => {
-            system::say_failed(error);
-            answer(failed(), &mut numbers);
+            system::say_failed(rt, error);
+            answer(rt, failed(), &mut numbers);
         }
     }
 }
 
-fn help() {
+fn help(rt: &HostRuntime) {
     system::write_all(
-        STDOUT_FILENO,
+        rt,
+        &mut rt.stdout(),
         b"\
 lora_read < frame
 
@@ -119,17 +119,17 @@ For a file with a frame on each line there is lora_lines.
     );
 }
 
-fn main() {
-    let asked = system::arguments();
+fn main(rt: HostRuntime) {
+    let asked = system::arguments(&rt);
     match asked {
         Asked::Work => {
-            run();
+            run(&rt);
         }
         Asked::Help => {
-            help();
+            help(&rt);
         }
         Asked::Other => {
-            system::say(b"lora_read takes no argument but --help\n");
+            system::say(&rt, b"lora_read takes no argument but --help\n");
         }
     }
 }

@@ -2,12 +2,12 @@
 // takes it. No piece is answered by a line; at the end the panel says how many were heard, accepted and refused.
 #![tactic(auto)]
 
-use libc::STDOUT_FILENO;
 use system::Asked;
 
-fn help() {
+fn help(rt: &HostRuntime) {
     system::write_all(
-        STDOUT_FILENO,
+        rt,
+        &mut rt.stdout(),
         b"\
 lora_tally < captures > panel
 
@@ -26,17 +26,17 @@ if some frame was not counted, and else says what broke the run off; then no who
     );
 }
 
-fn main() {
-    let asked = system::arguments();
+fn main(rt: HostRuntime) {
+    let asked = system::arguments(&rt);
     match asked {
         Asked::Work => {
-            filter::run(lines::tallies());
+            filter::run(&rt, lines::tallies());
         }
         Asked::Help => {
-            help();
+            help(&rt);
         }
         Asked::Other => {
-            system::say(b"lora_tally takes no argument but --help\n");
+            system::say(&rt, b"lora_tally takes no argument but --help\n");
         }
     }
 }

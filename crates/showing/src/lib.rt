@@ -12,7 +12,6 @@ ghost use Rattle.showing.specs.Along.{is_over, line_at, Filled, Passed, Over, To
 
 use bits::wide;
 use day::{Entry, Place, Verdict};
-use libc::STDOUT_FILENO;
 use show::LINE;
 use system::Sent;
 
@@ -116,11 +115,11 @@ fn fill(bytes: &[u8], from: Place, out: &mut [u8]) -> Part
 }
 
 // Writes out the first n bytes of a buffer, behind so many lines.
-fn write(lines: usize, out: &[u8], n: usize) -> Shown
+fn write(rt: &HostRuntime, lines: usize, out: &[u8], n: usize) -> Shown
     requires { n ≤ length out.now }
     ensures { Handed n result.sent }
 {
-    let sent = system::write_first(STDOUT_FILENO, out, n);
+    let sent = system::write_first(rt, &mut rt.stdout(), out, n);
     Shown {
         lines: panel::together(lines, lines::line_ends(out, sent.bytes)),
         sent,
@@ -128,7 +127,7 @@ fn write(lines: usize, out: &[u8], n: usize) -> Shown
 }
 
 // Writes out the lines of as many entries as the buffer has room for.
-fn show_part(bytes: &[u8], from: Place, lines: usize, out: &mut [u8]) -> Turn
+fn show_part(rt: &HostRuntime, bytes: &[u8], from: Place, lines: usize, out: &mut [u8]) -> Turn
     requires { 640 ≤ length out.old }
     ensures { Passed bytes.now from result.place out.new result.shown.sent × (result.over ≡ is_over (shown kind1 bytes.now result.place)) }
 {
@@ -137,19 +136,19 @@ fn show_part(bytes: &[u8], from: Place, lines: usize, out: &mut [u8]) -> Turn
     Turn {
         place,
         over: part.over,
-        shown: write(lines, out, part.used),
+        shown: write(rt, lines, out, part.used),
     }
 }
 
 // Writes out the lines of all entries. Each turn passes one at least.
-fn show_entries(bytes: &[u8], out: &mut [u8]) -> Shown
+fn show_entries(rt: &HostRuntime, bytes: &[u8], out: &mut [u8]) -> Shown
     requires { 640 ≤ length out.old }
     ensures { result.sent.whole ≡ true → Over bytes.now }
 {
     let mut place = day_walk::start();
     let mut lines = 0;
     for turn in 0..MOST {
-        let part = show_part(bytes, place, lines, out);
+        let part = show_part(rt, bytes, place, lines, out);
         let shown = part.shown;
         let sent = shown.sent;
         if !sent.whole {
@@ -172,25 +171,25 @@ fn show_entries(bytes: &[u8], out: &mut [u8]) -> Shown
 }
 
 // The last line, behind so many.
-fn show_end(lines: usize, frames: usize, refused: usize, out: &mut [u8]) -> Shown
+fn show_end(rt: &HostRuntime, lines: usize, frames: usize, refused: usize, out: &mut [u8]) -> Shown
     requires { 640 ≤ length out.old }
     ensures { Printing (end_line frames refused) out.new result.sent }
 {
     let n = show::put_end(out, 0, frames, refused);
-    write(lines, out, n)
+    write(rt, lines, out, n)
 }
 
 // The one line of a file that is refused.
-fn show_refusal(number: usize, place: usize, out: &mut [u8]) -> Shown
+fn show_refusal(rt: &HostRuntime, number: usize, place: usize, out: &mut [u8]) -> Shown
     requires { 640 ≤ length out.old }
     ensures { Printing (no_line number place) out.new result.sent }
 {
     let n = show::put_no(out, 0, number, place);
-    write(0, out, n)
+    write(rt, 0, out, n)
 }
 
 // Shows a file's bytes, by way of a lent buffer.
-pub fn show(bytes: &[u8], out: &mut [u8]) -> Shown
+pub fn show(rt: &HostRuntime, bytes: &[u8], out: &mut [u8]) -> Shown
     requires { 640 ≤ length out.old }
     ensures { Told (judged kind1 bytes.now) bytes.now out.new result.sent }
 {
@@ -200,13 +199,13 @@ pub fn show(bytes: &[u8], out: &mut [u8]) -> Shown
             frames,
             refused,
         } => {
-            let shown = show_entries(bytes, out);
+            let shown = show_entries(rt, bytes, out);
             let sent = shown.sent;
             if !sent.whole {
                 return shown;
             }
-            show_end(shown.lines, frames, refused, out)
+            show_end(rt, shown.lines, frames, refused, out)
         }
-        Verdict::Refused { number, place } => show_refusal(wide(number), place, out),
+        Verdict::Refused { number, place } => show_refusal(rt, wide(number), place, out),
     }
 }

@@ -26,6 +26,10 @@ abbrev pub Held : Contents → List ℕ → Type 0
 Held (Has n) buffer = n ≤ length buffer
 Held (Unread error) buffer = Unit
 
+-- so many bytes stand at the front of a list
+abbrev pub Front : ℕ → List ℕ → Type 0
+Front n xs = (n ≤ length xs) × (n ≡ length (take n xs))
+
 -- the bytes of an argument
 abbrev pub Named : Request → List ℕ → Type 0
 Named (Name n) word = n ≤ length word

@@ -1,9 +1,26 @@
 // Files by name. A call hands on how it went; what it did to the file no contract can say.
 ghost use Rattle.std.specs.Prelude.{◌≤◌, length};
-ghost use Rattle.io.specs.Counts.{IsPrefixLen};
-ghost use Rattle.system.specs.Calls.{Behind, Held};
+ghost use Rattle.system.specs.Calls.{Behind, Front, Held};
 
-use crate::{Got, error, put, read_from};
+use crate::{EINVAL, Got, error, put, read_from};
+use std::fs::{File, OpenOptions, Permissions};
+use std::io::{Seek, SeekFrom};
+use std::os::unix::fs::{OpenOptionsExt, PermissionsExt};
+use std::random::RandomSource;
+use std::rt::Clock;
+use std::str::from_utf8;
+use std::{fs, io};
+
+// The system's numbers for a name that something else has, and for bytes that are no text: std takes a file's name only as
+// UTF-8, and so a name that is not is refused here.
+const EEXIST: usize = 17;
+
+const EILSEQ: usize = 84;
+
+// The letters that the name of a new file ends in, and how often others are tried where a file has it already.
+const LETTERS: [u8; 62] = *b"abcdefghijklmnopqrstuvwxyzABCDEFGHIJKLMNOPQRSTUVWXYZ0123456789";
+
+const TRIES: usize = 62 * 62 * 62;
 
 // How a call went: as it should, or not, with the system's number for it.
 #[derive(Clone, Copy)]
@@ -12,10 +29,10 @@ pub enum Done {
     Failed(usize),
 }
 
-// A file that was opened, by the number that the system gave it; or the system's number for why it was not.
-#[derive(Clone, Copy)]
+// A file that was opened; or the system's number for why it was not.
+#[derive(Drop)]
 pub enum Opened {
-    File(i32),
+    File(File),
     Failed(usize),
 }
 
@@ -27,86 +44,141 @@ pub enum Contents {
 }
 
 // A new file, and how many bytes of the lent buffer are its name.
-#[derive(Clone, Copy)]
+#[derive(Drop)]
 pub struct Temporary {
     pub opened: Opened,
     pub name: usize,
 }
 
-fn went(status: i32) -> Done {
-    if status < 0 {
-        Done::Failed(error())
-    } else {
-        Done::Well
+fn went(answer: io::Result<()>) -> Done {
+    match answer {
+        Ok(()) => Done::Well,
+        Err(e) => Done::Failed(error(&e)),
     }
 }
 
-fn file_of(fd: i32) -> Opened {
-    if fd < 0 {
-        Opened::Failed(error())
-    } else {
-        Opened::File(fd)
+fn file_of(answer: io::Result<File>) -> Opened {
+    match answer {
+        Ok(file) => Opened::File(file),
+        Err(e) => Opened::Failed(error(&e)),
     }
 }
 
-pub fn open(path: &[u8]) -> Opened {
-    file_of(os::open_read(path))
+pub fn open(rt: &HostRuntime, path: &[u8]) -> Opened {
+    match from_utf8(path) {
+        Ok(text) => file_of(File::open(rt, text)),
+        Err(_) => Opened::Failed(EILSEQ),
+    }
 }
 
-pub fn close(fd: i32) -> Done {
-    went(libc::close(fd))
+// Closes the file. std keeps to itself what the system answers; what was synced before is on the disk all the same.
+pub fn close(file: File) -> Done {
+    drop(file);
+    Done::Well
 }
 
 // Waits until the file's bytes are on the disk.
-pub fn sync(fd: i32) -> Done {
-    went(libc::fsync(fd))
+pub fn sync(file: &File) -> Done {
+    went(file.sync_all())
 }
 
 // Lets everybody read the file; a temporary one is its owner's alone.
-pub fn share(fd: i32) -> Done {
-    went(libc::fchmod(fd, 0o644))
+pub fn share(file: &File) -> Done {
+    went(file.set_permissions(Permissions::from_mode(0o644)))
 }
 
-pub fn rename(from: &[u8], to: &[u8]) -> Done {
-    went(os::rename(from, to))
-}
-
-pub fn remove(path: &[u8]) -> Done {
-    went(os::unlink(path))
-}
-
-// Makes a file beside the one of this name, under a name that nothing else has.
-pub fn make_beside(name: &[u8], temporary: &mut [u8]) -> Temporary
-    ensures { result.name ≤ length temporary.new }
-{
-    let stem = put(temporary, 0, name);
-    let end = put(temporary, stem, b".XXXXXX");
-    Temporary {
-        opened: file_of(os::create_temp(&mut temporary[..end])),
-        name: end,
+pub fn rename(rt: &HostRuntime, from: &[u8], to: &[u8]) -> Done {
+    match (from_utf8(from), from_utf8(to)) {
+        (Ok(from), Ok(to)) => went(fs::rename(rt, from, to)),
+        _ => Done::Failed(EILSEQ),
     }
 }
 
+pub fn remove(rt: &HostRuntime, path: &[u8]) -> Done {
+    match from_utf8(path) {
+        Ok(text) => went(fs::remove_file(rt, text)),
+        Err(_) => Done::Failed(EILSEQ),
+    }
+}
+
+// Makes a file that nothing has the name of, its owner's alone.
+fn create(rt: &HostRuntime, path: &[u8]) -> Opened {
+    match from_utf8(path) {
+        Ok(text) => file_of(
+            OpenOptions::new()
+                .read(true)
+                .write(true)
+                .create_new(true)
+                .mode(0o600)
+                .open(rt, text),
+        ),
+        Err(_) => Opened::Failed(EILSEQ),
+    }
+}
+
+// Puts six letters behind a stem, as chance has them, and makes the file of that name.
+fn create_by_chance(rt: &HostRuntime, path: &mut [u8], stem: usize) -> Opened
+    requires { stem ≤ length path.old }
+{
+    let mut letters = [0u8; 6];
+    if let Err(e) = rt.fill_bytes(&mut letters) {
+        return Opened::Failed(error(&e));
+    }
+    for letter in letters.iter_mut() {
+        *letter = LETTERS[usize::from(*letter % 62)];
+    }
+    put(path, stem, &letters);
+    create(rt, path)
+}
+
+// Makes a file under a stem and six letters that nothing else has.
+fn create_unlike(rt: &HostRuntime, path: &mut [u8], stem: usize) -> Opened
+    requires { stem ≤ length path.old }
+{
+    for _ in 0..TRIES {
+        match create_by_chance(rt, path, stem) {
+            Opened::Failed(EEXIST) => {}
+            result => {
+                return result;
+            }
+        }
+    }
+    Opened::Failed(EEXIST)
+}
+
+// Makes a file beside the one of this name, under a name that nothing else has.
+pub fn make_beside(rt: &HostRuntime, name: &[u8], temporary: &mut [u8]) -> Temporary
+    ensures { result.name ≤ length temporary.new }
+{
+    let dot = put(temporary, 0, name);
+    let stem = put(temporary, dot, b".");
+    let end = put(temporary, stem, b"XXXXXX");
+    let opened = if end < 6 || stem != end - 6 {
+        Opened::Failed(EINVAL)
+    } else {
+        create_unlike(rt, &mut temporary[..end], stem)
+    };
+    Temporary { opened, name: end }
+}
+
 // Reads behind the bytes that are there.
-fn read_behind(fd: i32, buffer: &mut [u8], from: usize) -> Got
+fn read_behind(rt: &impl Clock, file: &mut File, buffer: &mut [u8], from: usize) -> Got
     requires { from ≤ length buffer.old }
     ensures { Behind result from buffer.new }
 {
-    read_from(fd, &mut buffer[from..])
+    read_from(rt, file, &mut buffer[from..])
 }
 
 // Reads from where the file stands to its end, or as much as the buffer takes.
-fn read_rest(fd: i32, buffer: &mut [u8]) -> Contents
+fn read_rest(rt: &impl Clock, file: &mut File, buffer: &mut [u8]) -> Contents
     ensures { Held result buffer.new }
 {
     let mut have = 0;
-    let mut turns = u64::MAX;
-    while turns > 0 {
-        turns -= 1;
+    for _ in 0..u64::MAX {
         if have == buffer.len() {
             return Contents::Bytes(have);
         }
-        let got = read_behind(fd, buffer, have);
+        let got = read_behind(rt, file, buffer, have);
         match got {
             Got::Bytes(n) => {
                 have += n;
@@ -123,18 +195,18 @@ fn read_rest(fd: i32, buffer: &mut [u8]) -> Contents
 }
 
 // Reads a file from its first byte on.
-pub fn read_whole(fd: i32, buffer: &mut [u8]) -> Contents
+pub fn read_whole(rt: &impl Clock, file: &mut File, buffer: &mut [u8]) -> Contents
     ensures { Held result buffer.new }
 {
-    if libc::lseek(fd, 0, libc::SEEK_SET) < 0 {
-        return Contents::Failed(error());
+    match file.seek(SeekFrom::Start(0)) {
+        Ok(_) => read_rest(rt, file, buffer),
+        Err(e) => Contents::Failed(error(&e)),
     }
-    read_rest(fd, buffer)
 }
 
 // How many bytes of a name are its folder's: up to the last slash.
 fn folder(name: &[u8]) -> usize
-    ensures { IsPrefixLen result name.now }
+    ensures { Front result name.now }
 {
     let mut n = name.len();
     while n > 0 {
@@ -146,22 +218,21 @@ fn folder(name: &[u8]) -> usize
     n
 }
 
-fn open_folder(name: &[u8]) -> Opened {
+fn open_folder(rt: &HostRuntime, name: &[u8]) -> Opened {
     let n = folder(name);
     if n == 0 {
-        return open(b".");
+        return open(rt, b".");
     }
-    open(&name[..n])
+    open(rt, &name[..n])
 }
 
 // Waits until the name of a file is on the disk, as its folder has it.
-pub fn sync_folder(name: &[u8]) -> Done {
-    let opened = open_folder(name);
-    match opened {
+pub fn sync_folder(rt: &HostRuntime, name: &[u8]) -> Done {
+    match open_folder(rt, name) {
         Opened::Failed(error) => Done::Failed(error),
-        Opened::File(fd) => {
-            let synced = sync(fd);
-            close(fd);
+        Opened::File(file) => {
+            let synced = sync(&file);
+            close(file);
             synced
         }
     }
