@@ -26,8 +26,7 @@ fn settings(sf: u8, low: u8, agreed: usize, cr: u8, checked: u8) -> Settings
 }
 
 // How many symbols a frame has. answer[0] on acceptance: the count.
-#[unsafe(no_mangle)]
-pub extern "C" fn lora_count_agreed(
+pub fn lora_count_agreed(
     sf: u8,
     low: u8,
     agreed: usize,
@@ -42,8 +41,7 @@ pub extern "C" fn lora_count_agreed(
 }
 
 // A frame's time on air. answer[0] on acceptance: the microseconds.
-#[unsafe(no_mangle)]
-pub extern "C" fn lora_airtime_agreed(
+pub fn lora_airtime_agreed(
     sf: u8,
     low: u8,
     agreed: usize,
@@ -66,8 +64,7 @@ pub extern "C" fn lora_airtime_agreed(
 }
 
 // Codes a payload into the lent list of symbols. answer[0] on acceptance: the count.
-#[unsafe(no_mangle)]
-pub extern "C" fn lora_code_agreed(
+pub fn lora_code_agreed(
     sf: u8,
     low: u8,
     agreed: usize,
@@ -84,8 +81,7 @@ pub extern "C" fn lora_code_agreed(
 
 // Reads a frame's payload into the lent bytes, and into the lent list how many bits were repaired in each of its symbols. answer
 // on acceptance: length, CR, checksum flag, symbols used, repairs, drift.
-#[unsafe(no_mangle)]
-pub extern "C" fn lora_read_agreed(
+pub fn lora_read_agreed(
     sf: u8,
     low: u8,
     agreed: usize,

@@ -13,8 +13,7 @@ use day::{Entry, Place, Verdict};
 use day_write::Written;
 
 // Writes the file of a day's entries into the lent bytes. answer[0] on acceptance: the file's length.
-#[unsafe(no_mangle)]
-pub extern "C" fn lora_day_write(
+pub fn lora_day_write(
     settings: &[u8],
     frames: &[u16],
     payloads: &[u8],
@@ -41,8 +40,7 @@ pub extern "C" fn lora_day_write(
 }
 
 // Checks a day's file. answer on acceptance: settings, frames, refused frames.
-#[unsafe(no_mangle)]
-pub extern "C" fn lora_day_check(file: &[u8], answer: &mut [u64]) -> u8
+pub fn lora_day_check(file: &[u8], answer: &mut [u64]) -> u8
     ensures { CheckExported (verdict (judged kind1 file.now)) answer.old answer.new result }
 {
     if answer.len() < 3 {
@@ -179,8 +177,7 @@ fn tell(entry: Entry, answer: &mut [u64]) -> u8
 }
 
 // The entry at a place of a day's file. answer on acceptance: what stands there, the place behind it, and its fields.
-#[unsafe(no_mangle)]
-pub extern "C" fn lora_day_step(
+pub fn lora_day_step(
     file: &[u8],
     at: usize,
     section: u8,

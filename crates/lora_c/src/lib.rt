@@ -13,9 +13,9 @@ ghost use Rattle.lora.specs.Read.{read_of};
 ghost use Rattle.lora.specs.declared.Expected.TheVariants.{Explicit};
 ghost use Rattle.lora_c.specs.Export.{flag_of, explicit_of, cell_of, front, CountExported, TimeExported, HeadExported, CodeExported, ReadExported};
 
-mod agreed;
-mod day_file;
-mod tallies;
+pub mod agreed;
+pub mod day_file;
+pub mod tallies;
 
 use lora::{Counted, Expected, Heading, Kind, Lasting, Received, Settings};
 
@@ -163,23 +163,14 @@ fn read_into(
 }
 
 // How many symbols a frame has. answer[0] on acceptance: the count.
-#[unsafe(no_mangle)]
-pub extern "C" fn lora_count(
-    sf: u8,
-    low: u8,
-    cr: u8,
-    checked: u8,
-    len: usize,
-    answer: &mut [u64],
-) -> u8
+pub fn lora_count(sf: u8, low: u8, cr: u8, checked: u8, len: usize, answer: &mut [u64]) -> u8
     ensures { CountExported (count_of (explicit_of sf low cr checked) len) answer.old answer.new result }
 {
     count_into(explicit(sf, low, cr, checked), len, answer)
 }
 
 // A frame's time on air. answer[0] on acceptance: the microseconds.
-#[unsafe(no_mangle)]
-pub extern "C" fn lora_airtime(
+pub fn lora_airtime(
     sf: u8,
     low: u8,
     cr: u8,
@@ -195,8 +186,7 @@ pub extern "C" fn lora_airtime(
 }
 
 // Codes a payload into the lent list of symbols. answer[0] on acceptance: the count.
-#[unsafe(no_mangle)]
-pub extern "C" fn lora_code(
+pub fn lora_code(
     sf: u8,
     low: u8,
     cr: u8,
@@ -211,8 +201,7 @@ pub extern "C" fn lora_code(
 }
 
 // What a frame's header says. answer on acceptance: length, CR, checksum flag.
-#[unsafe(no_mangle)]
-pub extern "C" fn lora_head(sf: u8, symbols: &[u16], answer: &mut [u64]) -> u8
+pub fn lora_head(sf: u8, symbols: &[u16], answer: &mut [u64]) -> u8
     ensures { HeadExported (head_of sf symbols.now) answer.old answer.new result }
 {
     if answer.len() < 3 {
@@ -233,8 +222,7 @@ pub extern "C" fn lora_head(sf: u8, symbols: &[u16], answer: &mut [u64]) -> u8
 
 // Reads a frame's payload into the lent bytes, and into the lent list how many bits were repaired in each of its symbols. answer
 // on acceptance: length, CR, checksum flag, symbols used, repairs, drift.
-#[unsafe(no_mangle)]
-pub extern "C" fn lora_read(
+pub fn lora_read(
     sf: u8,
     low: u8,
     symbols: &[u16],

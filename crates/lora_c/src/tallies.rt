@@ -107,8 +107,7 @@ fn note(n: Noted, cells: &mut [u32]) -> u8
 }
 
 // Clears a tally.
-#[unsafe(no_mangle)]
-pub extern "C" fn lora_tally_clear(cells: &mut [u32]) -> u8
+pub fn lora_tally_clear(cells: &mut [u32]) -> u8
     ensures { TallyExported (is_tally cells.old) (clear_of (tally_in cells.old)) cells.old cells.new result }
 {
     if cells.len() < CELLS {
@@ -118,8 +117,7 @@ pub extern "C" fn lora_tally_clear(cells: &mut [u32]) -> u8
 }
 
 // Hears an outcome: the number that read returned, and the cells of `answer` as read left them.
-#[unsafe(no_mangle)]
-pub extern "C" fn lora_tally_hear(cells: &mut [u32], number: u8, answer: &[u64]) -> u8
+pub fn lora_tally_hear(cells: &mut [u32], number: u8, answer: &[u64]) -> u8
     ensures { TallyExported (is_tally cells.old && is_outcome number answer.now) (hear_of (tally_in cells.old) (outcome_in number answer.now)) cells.old cells.new result }
 {
     if cells.len() < CELLS {
@@ -135,8 +133,7 @@ pub extern "C" fn lora_tally_hear(cells: &mut [u32], number: u8, answer: &[u64])
 }
 
 // Takes in another station's tally, which stays as it is.
-#[unsafe(no_mangle)]
-pub extern "C" fn lora_tally_take_in(cells: &mut [u32], other: &[u32]) -> u8
+pub fn lora_tally_take_in(cells: &mut [u32], other: &[u32]) -> u8
     ensures { TallyExported (is_tally cells.old && is_tally other.now) (take_in_of (tally_in cells.old) (tally_in other.now)) cells.old cells.new result }
 {
     if cells.len() < CELLS {

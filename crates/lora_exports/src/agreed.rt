@@ -1,0 +1,77 @@
+// The operations of frames without a header.
+ghost use Rattle.std.specs.Prelude.{length};
+ghost use Rattle.lora.specs.Airtime.{airtime_of};
+ghost use Rattle.lora.specs.Code.{code_of};
+ghost use Rattle.lora.specs.Count.{count_of};
+ghost use Rattle.lora.specs.Read.{read_of};
+ghost use Rattle.lora_c.specs.Export.{flag_of, agreed_of, expected_of, CountExported, TimeExported, CodeExported, ReadExported};
+
+// How many symbols a frame has. answer[0] on acceptance: the count.
+#[unsafe(no_mangle)]
+pub extern "C" fn lora_count_agreed(
+    sf: u8,
+    low: u8,
+    agreed: usize,
+    cr: u8,
+    checked: u8,
+    len: usize,
+    answer: &mut [u64],
+) -> u8
+    ensures { CountExported (count_of (agreed_of sf low agreed cr checked) len) answer.old answer.new result }
+{
+    lora_c::agreed::lora_count_agreed(sf, low, agreed, cr, checked, len, answer)
+}
+
+// A frame's time on air. answer[0] on acceptance: the microseconds.
+#[unsafe(no_mangle)]
+pub extern "C" fn lora_airtime_agreed(
+    sf: u8,
+    low: u8,
+    agreed: usize,
+    cr: u8,
+    checked: u8,
+    len: usize,
+    khz: u16,
+    preamble: u16,
+    answer: &mut [u64],
+) -> u8
+    ensures { TimeExported (airtime_of (agreed_of sf low agreed cr checked) len khz preamble) answer.old answer.new result }
+{
+    lora_c::agreed::lora_airtime_agreed(sf, low, agreed, cr, checked, len, khz, preamble, answer)
+}
+
+// Codes a payload into the lent list of symbols. answer[0] on acceptance: the count.
+#[unsafe(no_mangle)]
+pub extern "C" fn lora_code_agreed(
+    sf: u8,
+    low: u8,
+    agreed: usize,
+    cr: u8,
+    checked: u8,
+    payload: &[u8],
+    out: &mut [u16],
+    answer: &mut [u64],
+) -> u8
+    ensures { CodeExported (code_of (agreed_of sf low agreed cr checked) payload.now (length out.old)) (agreed_of sf low agreed cr checked) payload.now out.old out.new answer.old answer.new result }
+{
+    lora_c::agreed::lora_code_agreed(sf, low, agreed, cr, checked, payload, out, answer)
+}
+
+// Reads a frame's payload into the lent bytes, and into the lent list how many bits were repaired in each of its symbols. answer
+// on acceptance: length, CR, checksum flag, symbols used, repairs, drift.
+#[unsafe(no_mangle)]
+pub extern "C" fn lora_read_agreed(
+    sf: u8,
+    low: u8,
+    agreed: usize,
+    cr: u8,
+    checked: u8,
+    symbols: &[u16],
+    out: &mut [u8],
+    hurts: &mut [u8],
+    answer: &mut [u64],
+) -> u8
+    ensures { ReadExported (read_of sf (flag_of low) (expected_of agreed cr checked) symbols.now (length out.old) (length hurts.old)) sf (flag_of low) (expected_of agreed cr checked) symbols.now out.old out.new hurts.old hurts.new answer.old answer.new result }
+{
+    lora_c::agreed::lora_read_agreed(sf, low, agreed, cr, checked, symbols, out, hurts, answer)
+}
