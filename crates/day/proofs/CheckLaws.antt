@@ -3,12 +3,12 @@
 use mathlib.Core.Path.{◌≡◌, refl, sym, ap, ◌∙◌}
 use mathlib.Core.Bool.{Bool, true, false}
 use mathlib.Core.List.{List, []}
-use Prim.Native.Nat.{ℕ, ◌+◌, ◌-◌, ◌≤◌}
+use Prim.Native.Nat.{ℕ, ◌+◌, ◌≤◌}
 use native.Mathlib.Omega.{arith}
 use borrow.Author.Tests.{le-leb, lt-leb, eq-eqb, ne_eqb, ltb-true, ltb-false, leb-true, leb-false}
 use lib.Dec.{ltb, leb, eqb}
 use lib.ListN.{length, get_or}
-use Rattle.day.specs.Script.{one, many, Walked, came, stop, walk, taken, refused, whole, Form}
+use Rattle.day.specs.Script.{one, many, Walked, came, stop, walk, Form}
 use Rattle.day.specs.Day.{Day, kind1, within, count, put_count, setting, frame, refused_frame, section, day, judged}
 use Rattle.day.specs.Stages.{fault_of, spot, part_of, numbered, counted, verdict}
 use Rattle.day.specs.declared.entries.Went.{Went}

@@ -3,13 +3,13 @@
 use mathlib.Core.Path.{◌≡◌, refl, sym, ◌∙◌}
 use mathlib.Core.Bool.{Bool, true, false}
 use mathlib.Core.List.{List, [], ◌∷◌, append-nil}
-use Prim.Native.Nat.{ℕ, ◌+◌, ◌-◌, ◌*◌, ◌/◌, ◌%◌, ◌<◌, ◌≤◌}
+use Prim.Native.Nat.{ℕ, ◌+◌, ◌*◌, ◌/◌, ◌%◌, ◌<◌, ◌≤◌}
 use native.Mathlib.Omega.{arith}
 use borrow.Author.Tests.{lt-ltb, le-leb, ltb-true, leb-true, eqb-true, eq-eqb}
 use lib.Dec.{ltb, leb, eqb}
 use lib.ListN.{length, drop, drop_of_length-le}
 use Rattle.bits.specs.Check.{check}
-use Rattle.day.specs.Script.{one, Walked, came, stop, walk, taken, refused, whole, Form}
+use Rattle.day.specs.Script.{Walked, came, stop, walk, taken, refused, whole, Form}
 use Rattle.day.specs.Day.{Day, Kind, is_byte, two, low_first, count, put_count, setting, any_byte, frame, refused_frame, section, good_section, put_section, day, good_day, file_of, judged}
 use Rattle.day.proofs.ScriptLaws.{both_true, true-both, Stands, stands-append, stands-split, bind-on, bind-only, done-only, done-back, one_only, one-back, byte-only, byte-back, Spells, Lawful, many-only, many-back}
 

@@ -11,7 +11,7 @@ use lib.Dec.{ltb, leb}
 use lib.ListN.{length, get_or, take, drop, length-drop}
 use lib.Seq.{drop-cons, length-take-le}
 use Rattle.bits.specs.Check.{check}
-use Rattle.day.specs.Script.{Script, byte, ◌>>=◌, one, many, Walked, came, stop, walk}
+use Rattle.day.specs.Script.{Script, ◌>>=◌, one, many, Walked, came, stop, walk}
 use Rattle.day.specs.Day.{within, is_byte, two, any_byte, frame}
 use Rattle.day.specs.Stages.{fault_of, frame_seen}
 use Rattle.day.specs.declared.entries.FrameAt.{FrameAt}

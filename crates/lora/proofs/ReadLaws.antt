@@ -6,12 +6,11 @@ use mathlib.Core.List.{List}
 use Prim.Native.Nat.{ℕ, ◌+◌, ◌-◌, ◌^◌, ◌<◌, ◌≤◌}
 use native.Mathlib.Nat.{add-zero}
 use native.Mathlib.Omega.{arith}
-use lib.Dec.{leb, eqb}
+use lib.Dec.{eqb}
 use lib.IntN.{ℤ}
 use lib.ListN.{length, get_or, take, drop}
 use lib.Seq.{take_at, length-take-le, get_or-take}
 use borrow.Author.Tests.{lt-leb, le-leb, leb-false}
-use Rattle.bits.specs.Check.{check}
 use Rattle.bits.specs.Search.{first, how_many}
 use Rattle.bits.specs.Tab.{tab, over, blank}
 use Rattle.bits.proofs.Searches.{first_range, first-none, first-before, first-shift, how_many-add, how_many-cong, how_many-le}
@@ -31,7 +30,6 @@ use Rattle.reading.proofs.ReadingLaws.{blank-small, nibble-data-lt, walk-nibbles
 use Rattle.lora.specs.Head.{is_over, first_over, header_found}
 use Rattle.lora.specs.Read.{over_in_frame, unreadable_in_data, nibble_found, byte_found, sum_holds, repairs_of, hurt_found, accepted_of, body_of, frame_said}
 use Rattle.lora.specs.Stages.{sum_agrees, Headed, data_of}
-use Rattle.lora.specs.declared.Accepted.{Accepted}
 use Rattle.lora.specs.declared.Expected.TheVariants.{Explicit}
 use Rattle.lora.specs.declared.Received.TheVariants.{Payload, Refused}
 use Rattle.lora.proofs.HeadLaws.{Heads, header-found}

@@ -1,11 +1,9 @@
 use native.Mathlib.Omega.{arith}
 use lib.Seq.{take_all, length-take-le}
-use Prim.Native.Nat.{◌≤◌, ◌-◌}
-use mathlib.Core.Path.{◌≡◌}
-use lib.ListN.{length, take}
+use lib.ListN.{take}
 use mathlib.Core.List.{flat_map}
 use Rattle.bits.proofs.Lists.{flat_map-more}
-use Rattle.line.specs.Line.{hex_byte, hex}
+use Rattle.line.specs.Line.{hex_byte}
 use Rattle.put.proofs.Puts.{put_on, put-none}
 use Rattle.line.proofs.LineLaws.{hex-length}
 use borrow.Author.Rules.{rules}

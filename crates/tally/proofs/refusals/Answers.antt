@@ -1,8 +1,6 @@
-use mathlib.Core.Path.{◌≡◌, refl}
-use Prim.Native.Nat.{◌≤◌, ◌-◌}
+use mathlib.Core.Path.{refl}
 use native.Mathlib.Omega.{arith}
 use Rattle.bits.proofs.Fill.{filled_none, filled_more, filled-whole}
-use Rattle.tally.specs.Tally.{refused_of}
 use borrow.Author.Rules.{rules}
 use Rattle.tally.proofs.refusals.Goals as goal
 

@@ -1,6 +1,6 @@
 -- A loop over the cells; so few numbers of 32 bits can't pass 64.
-use mathlib.Core.Path.{◌≡◌, ◌∙◌}
-use Prim.Native.Nat.{◌+◌, ◌*◌, ◌-◌, ◌≤◌}
+use mathlib.Core.Path.{◌≡◌}
+use Prim.Native.Nat.{◌*◌, ◌-◌, ◌≤◌}
 use lib.ListN.{get_or}
 use Rattle.bits.specs.Sum.{sum}
 use Rattle.bits.specs.Tab.{tab}

@@ -1,7 +1,6 @@
 use Rattle.tally.proofs.RoomLaws.{rooms-no, rooms-on, rooms-yes}
 use mathlib.Core.Path.{sym}
-use mathlib.Core.Path.{◌≡◌, refl, ◌∙◌}
-use Prim.Native.Nat.{◌≤◌, ◌-◌}
+use mathlib.Core.Path.{refl, ◌∙◌}
 use native.Mathlib.Omega.{arith}
 use borrow.Author.Tests.{not-true, not-false}
 use Rattle.tally.specs.Tally.{sum_at}

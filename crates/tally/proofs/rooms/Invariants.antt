@@ -1,5 +1,5 @@
 -- A loop up to the first sum that would pass 32 bits.
-use mathlib.Core.Path.{◌≡◌, ◌∙◌}
+use mathlib.Core.Path.{◌≡◌}
 use Prim.Native.Nat.{◌≤◌, ◌-◌}
 use Rattle.bits.specs.Search.{first}
 use Rattle.tally.specs.Tally.{sum_at, passes}

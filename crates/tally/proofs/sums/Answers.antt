@@ -1,6 +1,5 @@
 use Rattle.tally.proofs.RoomLaws.{at_most}
-use mathlib.Core.Path.{◌≡◌, refl}
-use Prim.Native.Nat.{◌≤◌, ◌-◌}
+use mathlib.Core.Path.{refl}
 use native.Mathlib.Omega.{arith}
 use Rattle.bits.proofs.Fill.{filled_none, filled_more, filled-whole}
 use Rattle.tally.specs.Tally.{sum_at}

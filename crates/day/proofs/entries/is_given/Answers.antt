@@ -1,7 +1,5 @@
 use mathlib.Core.Path.{◌≡◌}
-use Prim.Native.Nat.{◌-◌, ◌≤◌}
 use native.Mathlib.Omega.{arith}
-use Rattle.day.specs.Day.{given}
 use Rattle.day.proofs.EntryLaws.{given-none, given-next}
 use borrow.Author.Rules.{rules}
 use Rattle.day.proofs.entries.is_given.Goals as goal

@@ -1,6 +1,6 @@
 -- `frames_end` goes from frame to frame: what was asked is what is left, from here.
 -- Assumes nothing.
-use mathlib.Core.Path.{◌≡◌, ◌∙◌}
+use mathlib.Core.Path.{◌≡◌}
 use mathlib.Core.List.{[]}
 use Prim.Native.Nat.{◌-◌, ◌≤◌}
 use Rattle.day.specs.Script.{many, walk}

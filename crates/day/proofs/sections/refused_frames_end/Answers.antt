@@ -1,5 +1,5 @@
 use mathlib.Core.Path.{◌≡◌, sym, ◌∙◌}
-use Prim.Native.Nat.{◌-◌, ◌≤◌}
+use Prim.Native.Nat.{◌-◌}
 use native.Mathlib.Omega.{arith}
 use Rattle.day.proofs.EntryLaws.{refused-same}
 use Rattle.day.proofs.SectionLaws.{section-more, section-stop, section-end}

@@ -1,6 +1,6 @@
 -- `refused_frames_end` goes from refused frame to refused frame.
 -- Assumes nothing.
-use mathlib.Core.Path.{◌≡◌, ◌∙◌}
+use mathlib.Core.Path.{◌≡◌}
 use mathlib.Core.List.{[]}
 use Prim.Native.Nat.{◌-◌, ◌≤◌}
 use Rattle.day.specs.Script.{many, walk}

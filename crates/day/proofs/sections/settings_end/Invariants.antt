@@ -1,6 +1,6 @@
 -- `settings_end` goes from setting to setting; each is read in the light of those before it, which the file itself has.
 -- Assumes nothing.
-use mathlib.Core.Path.{◌≡◌, ◌∙◌}
+use mathlib.Core.Path.{◌≡◌}
 use mathlib.Core.List.{[]}
 use Prim.Native.Nat.{◌-◌, ◌≤◌}
 use Rattle.day.specs.Script.{many, walk}

@@ -1,5 +1,5 @@
 -- Where the search finds something a second loop says where.
-use mathlib.Core.Path.{◌≡◌, ◌∙◌}
+use mathlib.Core.Path.{◌≡◌}
 use Prim.Native.Nat.{◌≤◌, ◌-◌, ◌^◌}
 use Rattle.lora.specs.Head.{first_over}
 use Rattle.lora.proofs.opening.first_over.Given as goal

@@ -1,7 +1,6 @@
 use mathlib.Core.Path.{◌≡◌, ap, ◌∙◌}
-use Prim.Native.Nat.{ℕ, ◌≤◌, ◌-◌, ◌^◌}
+use Prim.Native.Nat.{ℕ, ◌^◌}
 use native.Mathlib.Omega.{arith}
-use lib.Dec.{leb}
 use borrow.Author.Tests.{le-leb, lt-leb}
 use Rattle.bits.proofs.Searches.{none-start, none_here, none-on}
 use Rattle.lora.specs.Head.{is_over, first_over}
@@ -23,8 +22,8 @@ loop-i-preserved c =
       search rules,
       search rules,
       elim c.if-m-symbols.branch [
-        then-m-symbols w ↦ w.none-is ∙ none_here (is_over a.sf a.symbols.now) a.from l.i l.invariant.1 (le-leb _ _ (rw l.invariant.0 at w.if-m-symbols.true))
-      | else-m-symbols w ↦ w.none-is ∙ l.invariant.3 ∙ none-on (is_over a.sf a.symbols.now) a.from l.i l.invariant.1 (lt-leb _ _ (rw l.invariant.0 at w.if-m-symbols.false))
+        | then-m-symbols w ↦ w.none-is ∙ none_here (is_over a.sf a.symbols.now) a.from l.i l.invariant.1 (le-leb _ _ (rw l.invariant.0 at w.if-m-symbols.true))
+        | else-m-symbols w ↦ w.none-is ∙ l.invariant.3 ∙ none-on (is_over a.sf a.symbols.now) a.from l.i l.invariant.1 (lt-leb _ _ (rw l.invariant.0 at w.if-m-symbols.false))
       ],
     )
 

@@ -1,5 +1,5 @@
 -- A loop over all the symbols learns whether the search among them finds nothing.
-use mathlib.Core.Path.{◌≡◌, ◌∙◌}
+use mathlib.Core.Path.{◌≡◌}
 use Prim.Native.Nat.{◌≤◌, ◌-◌, ◌^◌}
 use lib.Dec.{leb}
 use Rattle.lora.specs.Head.{first_over}

@@ -1,5 +1,4 @@
 use native.Mathlib.Omega.{arith}
-use Prim.Native.Nat.{◌≤◌, ◌-◌}
 use mathlib.Core.Path.{refl}
 use Rattle.bits.proofs.Fill.{filled_none, filled_more, filled-end}
 use Rattle.reading.specs.Stages.{listed}

@@ -1,5 +1,5 @@
 -- The checks of count, then the frame that was agreed.
-use mathlib.Core.Path.{◌≡◌, refl, sym, ◌∙◌}
+use mathlib.Core.Path.{refl, sym, ◌∙◌}
 use Rattle.lora.specs.Read.{read_of}
 use Rattle.lora.specs.declared.Expected.TheVariants.{Agreed}
 use Rattle.lora.specs.declared.Kind.TheVariants as kind
