@@ -1,7 +1,6 @@
 -- `take_front` takes bytes while a mark might come. The loop's invariant: the bytes before the place end are taken.
 -- Assumes nothing.
 use Prim.Native.Nat.{◌≤◌, ◌-◌}
-use mathlib.Core.Path.{◌∙◌}
 use lib.ListN.{length, take}
 use Rattle.capture.specs.Scan.{Holds, state_of, run}
 use Rattle.capture.proofs.take_front.Given as goal

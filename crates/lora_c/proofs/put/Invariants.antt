@@ -1,5 +1,5 @@
 -- A loop over the cells, each to its place.
-use mathlib.Core.Path.{◌≡◌, ◌∙◌}
+use mathlib.Core.Path.{◌≡◌}
 use Prim.Native.Nat.{◌≤◌, ◌-◌}
 use lib.ListN.{length, get_or}
 use Rattle.bits.proofs.Fill.{Filled}

@@ -17,6 +17,6 @@ returns c =
     rw c.refused.ensures
     (grown-not a.b c.requires.sane
     (elim c.else-scan-lt5.branch [
-      else-scan-lt5-via-then-scan-lt5+else-value-le65535 w ↦ large-value a.scan.digits v (lt-leb _ _ w.if-value-le65535.false)
-    | else-scan-lt5-via-else-scan-lt5 w ↦ many-digits a.scan.digits v w.if-scan-lt5.false
+      | else-scan-lt5-via-then-scan-lt5+else-value-le65535 w ↦ large-value a.scan.digits v (lt-leb _ _ w.if-value-le65535.false)
+      | else-scan-lt5-via-else-scan-lt5 w ↦ many-digits a.scan.digits v w.if-scan-lt5.false
     ]))

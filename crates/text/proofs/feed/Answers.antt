@@ -1,6 +1,4 @@
 use native.Mathlib.Omega.{arith}
-use Prim.Native.Nat.{◌≤◌, ◌-◌}
-use mathlib.Core.Path.{◌≡◌}
 use lib.Seq.{take_all}
 use Rattle.bits.proofs.Lists.{foldl-more}
 use Rattle.text.specs.Scan.{state_of, step, run}

@@ -1,6 +1,5 @@
 -- `take_byte` goes by the byte: a separator, a digit, another; and by whether the text is bad already.
 -- Assumes nothing.
-use Prim.Native.Nat.{ℕ}
 use mathlib.Core.Logic.{⊎_elim}
 use Rattle.text.proofs.ScanLaws.{holds-here, holds-refused, byte-stays, byte-shuts, byte-grows, byte-refuses, is-space, is-line-end, no-separator, is-digit, below-digits, above-digits}
 use borrow.Author.Tests.{eq-eqb, lt-leb}
@@ -31,7 +30,7 @@ returns c =
     byte-refuses _ _ b c.if-scan.false
     (no-separator b c.if-b-eq32.false c.if-b-eq10.false-raw)
     (elim c.else-b-ge48.branch [
-      else-b-ge48-via-then-b-ge48+else-b-le57 w ↦ above-digits b (lt-leb _ _ w.if-b-le57.false)
-    | else-b-ge48-via-else-b-ge48 w ↦ below-digits b w.if-b-ge48.false
+      | else-b-ge48-via-then-b-ge48+else-b-le57 w ↦ above-digits b (lt-leb _ _ w.if-b-le57.false)
+      | else-b-ge48-via-else-b-ge48 w ↦ below-digits b w.if-b-ge48.false
     ])
     (rw c.refused.ensures (holds-refused c.requires))

@@ -1,7 +1,7 @@
 -- `frames_good` judges row after row.
 -- Assumes nothing.
 use mathlib.Core.Path.{◌≡◌}
-use Prim.Native.Nat.{◌-◌, ◌/◌, ◌≤◌}
+use Prim.Native.Nat.{◌-◌, ◌≤◌}
 use Rattle.day_write.specs.Judging.{rows_good}
 use Rattle.day_write.proofs.judging.frames_good.Given as goal
 

@@ -1,7 +1,7 @@
 -- `lengths` adds the lengths up; 255 of them stay below 2 ^ 24.
 -- Assumes nothing.
 use mathlib.Core.Path.{◌≡◌}
-use Prim.Native.Nat.{◌+◌, ◌-◌, ◌*◌, ◌/◌, ◌≤◌}
+use Prim.Native.Nat.{◌-◌, ◌*◌, ◌≤◌}
 use Rattle.day_write.specs.Write.{lengths_before}
 use Rattle.day_write.proofs.judging.lengths.Given as goal
 

@@ -1,8 +1,8 @@
 -- `refused_good` judges row after row.
 -- Assumes nothing.
-use mathlib.Core.Path.{◌≡◌, ◌∙◌}
+use mathlib.Core.Path.{◌≡◌}
 use mathlib.Core.List.{[]}
-use Prim.Native.Nat.{◌-◌, ◌/◌, ◌≤◌}
+use Prim.Native.Nat.{◌-◌, ◌≤◌}
 use Rattle.bits.specs.Tab.{tab}
 use Rattle.day.specs.Script.{good_each}
 use Rattle.day.specs.Day.{refused_frame}

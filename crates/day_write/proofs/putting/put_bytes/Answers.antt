@@ -1,9 +1,6 @@
 use lib.Seq.{take_all, take-suc, length-take-le}
-use Prim.Native.Nat.{◌≤◌, ◌-◌}
 use native.Mathlib.Numerals.{add-one}
 use native.Mathlib.Omega.{arith}
-use mathlib.Core.Path.{◌≡◌}
-use lib.ListN.{length, take}
 use Rattle.put.proofs.Puts.{put_on, put-none}
 use borrow.Author.Rules.{rules}
 use Rattle.day_write.proofs.putting.put_bytes.Goals as goal

@@ -1,8 +1,7 @@
 use mathlib.Core.Path.{◌≡◌}
-use Prim.Native.Nat.{◌≤◌, ◌-◌, ◌/◌}
+use Prim.Native.Nat.{◌/◌}
 use native.Mathlib.Omega.{arith}
 use lib.ListN.{length}
-use Rattle.day.specs.Script.{put_each}
 use Rattle.day.specs.Day.{put_count, frame}
 use Rattle.put.proofs.Puts.{put_on, put-none}
 use Rattle.day_write.specs.Write.{frame_row}

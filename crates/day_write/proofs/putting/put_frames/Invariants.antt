@@ -2,7 +2,7 @@
 -- next payload starts.
 -- Assumes nothing.
 use mathlib.Core.Path.{◌≡◌}
-use Prim.Native.Nat.{◌≤◌, ◌-◌, ◌/◌}
+use Prim.Native.Nat.{◌≤◌, ◌-◌}
 use Rattle.bits.specs.Tab.{tab}
 use Rattle.day.specs.Script.{put_each}
 use Rattle.day.specs.Day.{frame}

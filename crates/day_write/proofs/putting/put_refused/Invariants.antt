@@ -1,7 +1,6 @@
 -- `put_refused` writes the refused frames. The loop's invariant: those before the place i are written behind the count.
 -- Assumes nothing.
-use mathlib.Core.Path.{◌≡◌}
-use Prim.Native.Nat.{◌≤◌, ◌-◌, ◌/◌}
+use Prim.Native.Nat.{◌≤◌, ◌-◌}
 use Rattle.bits.specs.Tab.{tab}
 use Rattle.day.specs.Script.{put_each}
 use Rattle.day.specs.Day.{refused_frame}

@@ -1,9 +1,8 @@
 use mathlib.Core.Path.{◌≡◌}
 use mathlib.Core.List.{List}
-use Prim.Native.Nat.{ℕ, ◌≤◌, ◌-◌, ◌/◌}
+use Prim.Native.Nat.{ℕ, ◌/◌}
 use native.Mathlib.Omega.{arith}
 use lib.ListN.{length}
-use Rattle.day.specs.Script.{put_each}
 use Rattle.day.specs.Day.{put_count, setting}
 use Rattle.day.specs.Stages.{pair_at}
 use Rattle.put.proofs.Puts.{put_on, put-none}

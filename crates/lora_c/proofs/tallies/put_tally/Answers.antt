@@ -1,7 +1,5 @@
-use Prim.Native.Nat.{◌≤◌, ◌-◌}
 use native.Mathlib.Omega.{arith}
 use Rattle.bits.proofs.Fill.{filled_none, filled_more, filled-end}
-use Rattle.lora_c.specs.TallyExport.{cell_of}
 use borrow.Author.Rules.{rules}
 use Rattle.lora_c.proofs.tallies.put_tally.Goals as goal
 
