@@ -28,6 +28,6 @@ fn main() -> ExitCode {
 fn fail(reason: &str) -> ExitCode {
     eprintln!("chyvandra: {reason}");
     eprintln!("chyvandra: set LORA_LIB_DIR to the whole path of the folder that has {LIBRARY}");
-    eprintln!("chyvandra: (`rt staticlib lora_c` makes it in target/staticlib)");
+    eprintln!("chyvandra: (`tools/build library` makes it in target/staticlib)");
     ExitCode::FAILURE
 }
