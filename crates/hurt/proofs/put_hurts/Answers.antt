@@ -1,5 +1,3 @@
-use Prim.Native.Nat.{◌≤◌, ◌-◌, ◌+◌, ◌*◌}
-use mathlib.Core.Path.{◌≡◌}
 use lib.Seq.{take_all}
 use Rattle.put.proofs.Puts.{put_on, put-none}
 use Rattle.hurt.specs.Hurt.{entries_from}

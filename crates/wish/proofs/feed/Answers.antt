@@ -1,6 +1,5 @@
 use native.Mathlib.Omega.{arith}
-use Prim.Native.Nat.{◌≤◌, ◌-◌}
-use mathlib.Core.Path.{◌≡◌, refl}
+use mathlib.Core.Path.{refl}
 use lib.Seq.{take_all}
 use Rattle.bits.proofs.Lists.{foldl-more}
 use Rattle.wish.specs.Scan.{state_of, step, run}

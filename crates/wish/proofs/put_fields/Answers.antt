@@ -1,5 +1,3 @@
-use Prim.Native.Nat.{◌≤◌, ◌-◌, ◌+◌, ◌*◌}
-use mathlib.Core.Path.{◌≡◌}
 use mathlib.Core.List.{flat_map}
 use lib.Seq.{take_all}
 use Rattle.bits.proofs.Lists.{flat_map-more}
