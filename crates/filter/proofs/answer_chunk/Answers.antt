@@ -1,7 +1,5 @@
-use mathlib.Core.Path.{◌≡◌}
 use native.Mathlib.Omega.{arith}
-use Prim.Native.Nat.{◌≤◌, ◌-◌}
-use Rattle.lines.specs.Stream.{point_of, part}
+use Rattle.lines.specs.Stream.{point_of}
 use Rattle.lines.proofs.Parts.{part-all}
 use Rattle.lines.proofs.StreamLaws.{went-none}
 use Rattle.filter.proofs.TurnLaws.{stands-part}

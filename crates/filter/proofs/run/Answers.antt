@@ -9,4 +9,4 @@ take_all-after-requires c = (c.requires.sane _ (search rules), search rules)
 pub finish-requires : goal.finish-requires
 finish-requires c =
     let taken = c.take_all-after in
-    ((rw c.in-Ended.is at taken.ensures).1.sane, rw taken.auto.1.1.1.0 (search rules))
+    ((rw c.in-Ended.is at taken.ensures).1.sane, search rules)

@@ -1,7 +1,7 @@
 -- `take_all` takes an input whole, or breaks off.
 -- Assumes nothing.
 use mathlib.Core.List.{List}
-use mathlib.Core.Path.{◌≡◌, ◌∙◌}
+use mathlib.Core.Path.{◌≡◌}
 use Prim.Native.Nat.{ℕ, ◌≤◌}
 use lib.ListN.{length}
 use Rattle.lines.specs.Stream.{run, point_of, Stands}

@@ -1,6 +1,5 @@
 use mathlib.Core.List.{[]}
-use mathlib.Core.Path.{◌≡◌, ◌∙◌}
-use Rattle.text.specs.Scan.{start}
+use mathlib.Core.Path.{◌∙◌}
 use Rattle.text.proofs.ScanLaws.{holds-start, holds-piece}
 use borrow.Author.Rules.{rules}
 use Rattle.lora_read.proofs.take_all.Goals as goal
