@@ -2,16 +2,16 @@
 -- Assumes nothing.
 use mathlib.Core.Path.{◌≡◌, refl, sym, ap, ◌∙◌}
 use mathlib.Core.Bool.{Bool, true, false, not}
-use mathlib.Core.List.{List, [], ◌++◌, append-nil, append_assoc}
-use Prim.Native.Nat.{ℕ, zero, suc, ◌+◌, ◌<◌, ◌≤◌}
+use mathlib.Core.List.{List, ◌++◌, append-nil, append_assoc}
+use Prim.Native.Nat.{ℕ, zero, suc, ◌<◌}
 use native.Mathlib.Omega.{arith}
 use lib.ListN.{length}
 use Rattle.put.specs.Put.{Put}
 use Rattle.put.proofs.Puts.{put-none, put_on, put_all}
-use Rattle.day.specs.Script.{Judged, taken, refused}
+use Rattle.day.specs.Script.{Judged}
 use Rattle.day.specs.Day.{Day, kind1}
 use Rattle.day.specs.Stages.{verdict}
-use Rattle.day.specs.Walk.{shown, payload_of, begin}
+use Rattle.day.specs.Walk.{shown, begin}
 use Rattle.day.specs.declared.Verdict.TheVariants.{Taken, Refused as Declined}
 use Rattle.day.specs.declared.Place.{Place}
 use Rattle.day.specs.declared.Entry.{Entry}

@@ -1,6 +1,5 @@
-use mathlib.Core.Path.{◌≡◌, sym, ◌∙◌}
+use mathlib.Core.Path.{sym, ◌∙◌}
 use native.Mathlib.Omega.{arith}
-use Prim.Native.Nat.{◌+◌, ◌-◌, ◌≤◌}
 use Rattle.showing.proofs.AlongLaws.{filled_none, filled_more, line-some, not_yet}
 use borrow.Author.Rules.{rules}
 use Rattle.showing.proofs.fill.Goals as goal

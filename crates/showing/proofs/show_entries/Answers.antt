@@ -1,6 +1,6 @@
 use mathlib.Core.Path.{◌≡◌, sym, ◌∙◌}
 use native.Mathlib.Omega.{arith}
-use Prim.Native.Nat.{ℕ, ◌-◌, ◌≤◌}
+use Prim.Native.Nat.{ℕ}
 use Rattle.showing.proofs.AlongLaws.{reached-none, reached-more, reached-over, not-whole}
 use borrow.Author.Rules.{rules}
 use Rattle.showing.proofs.show_entries.Goals as goal

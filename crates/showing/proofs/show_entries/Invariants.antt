@@ -1,6 +1,6 @@
 -- `show_entries` comes to the end of the walk, or a write fails. The loop's invariant: the place is one that the walk comes to.
 -- Assumes nothing.
-use mathlib.Core.Path.{◌≡◌, ◌∙◌}
+use mathlib.Core.Path.{◌≡◌}
 use Prim.Native.Nat.{◌-◌, ◌≤◌}
 use lib.ListN.{length}
 use Rattle.showing.proofs.AlongLaws.{Reached}
