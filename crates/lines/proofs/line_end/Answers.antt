@@ -1,6 +1,4 @@
 use native.Mathlib.Omega.{arith}
-use Prim.Native.Nat.{◌≤◌, ◌-◌}
-use Rattle.lines.specs.Stream.{part}
 use Rattle.lines.proofs.Parts.{part-more, clear_none, clear-more}
 use borrow.Author.Rules.{rules}
 use Rattle.lines.proofs.line_end.Goals as goal

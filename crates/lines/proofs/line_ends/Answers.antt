@@ -1,6 +1,5 @@
 use mathlib.Core.Path.{◌≡◌}
 use native.Mathlib.Omega.{arith}
-use Prim.Native.Nat.{◌≤◌, ◌-◌}
 use Rattle.lines.proofs.Parts.{ends-none, ends_more}
 use borrow.Author.Rules.{rules}
 use Rattle.lines.proofs.line_ends.Goals as goal

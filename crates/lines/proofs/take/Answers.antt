@@ -1,6 +1,4 @@
-use mathlib.Core.Path.{◌≡◌}
 use native.Mathlib.Omega.{arith}
-use Prim.Native.Nat.{◌+◌, ◌≤◌, ◌-◌}
 use Rattle.lines.proofs.StreamLaws.{went-none, went_on}
 use borrow.Author.Rules.{rules}
 use Rattle.lines.proofs.take.Goals as goal
