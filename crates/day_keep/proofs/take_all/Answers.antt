@@ -1,4 +1,3 @@
-use mathlib.Core.Path.{◌≡◌}
 use borrow.Author.Rules.{rules}
 use Rattle.day_keep.proofs.take_all.Goals as goal
 

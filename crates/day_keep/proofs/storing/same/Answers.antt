@@ -1,7 +1,5 @@
-use mathlib.Core.Path.{◌≡◌, sym, ◌∙◌}
-use Prim.Native.Nat.{◌≤◌, ◌-◌}
+use mathlib.Core.Path.{sym, ◌∙◌}
 use native.Mathlib.Numerals.{add-one}
-use lib.ListN.{take}
 use lib.Seq.{take_all, take-suc}
 use borrow.Author.Rules.{rules}
 use Rattle.day_keep.proofs.storing.same.Goals as goal

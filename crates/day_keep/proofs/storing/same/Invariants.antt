@@ -1,6 +1,6 @@
 -- `same` compares byte by byte. The loop's invariant: those before the place i are the same.
 -- Assumes nothing.
-use mathlib.Core.Path.{◌≡◌, ◌∙◌}
+use mathlib.Core.Path.{◌≡◌}
 use Prim.Native.Nat.{◌≤◌, ◌-◌}
 use lib.ListN.{length, take}
 use Rattle.day_keep.proofs.storing.same.Given as goal
