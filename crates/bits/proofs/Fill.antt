@@ -5,9 +5,8 @@ use mathlib.Core.List.{List}
 use Prim.Native.Nat.{ℕ, ◌+◌, ◌<◌, ◌≤◌}
 use native.Mathlib.Omega.{arith}
 use lib.ListN.{length, get_or, set, length-set}
-use lib.Seq.{set-get_or}
 use Rattle.bits.specs.Tab.{tab, over, over_at}
-use Rattle.bits.proofs.Tabs.{over_none, over-more, get_or-over-rest, over_at-none, over_at-more, over_at-on, over_at-cong, over-all, length_over, length-over_at, over-on}
+use Rattle.bits.proofs.Tabs.{over_none, over-more, get_or-over-rest, over_at-none, over_at-more, over_at-on, over-all, length_over, length-over_at, over-on}
 
 -- l is d with its first n cells by the rule f
 pub record Filled {A : Type 0} (f : ℕ → A) (d : List A) (n : ℕ) (l : List A) : Type 0 where
@@ -32,10 +31,6 @@ module _ {A : Type 0} where
   -- what is not yet filled is as it was
   pub filled-rest : {f : ℕ → A} {d : List A} {n : ℕ} {l : List A} (z : A) → Filled f d n l → get_or l n z ≡ get_or d n z
   filled-rest {f} {d} {n} {l} z p = rw p.is (get_or-over-rest n f d n z (omega arith))
-
-  -- a cell that is by the rule already
-  pub filled-skip : {f : ℕ → A} {d : List A} {n : ℕ} {l : List A} (z : A) → Filled f d n l → n < length d → get_or d n z ≡ f n → Filled f d (n + 1) l
-  filled-skip {f} {d} {n} {l} z p h e = rw (set-get_or l n z) at (filled_more p h (filled-rest z p ∙ e))
 
   pub filled-end : {f : ℕ → A} {d : List A} {m n : ℕ} {l : List A} → Filled f d m l → m ≡ n → l ≡ over n f d
   filled-end {f} {d} p e = rw e at p.is
@@ -68,7 +63,3 @@ module _ {A : Type 0} where
 
   pub filled_at-end : {f : ℕ → A} {d : List A} {at m n : ℕ} {l : List A} → FilledAt f d at m l → m ≡ n → l ≡ over_at at n f d
   filled_at-end {f} {d} p e = rw e at p.is
-
-  -- by another rule that agrees with it
-  pub filled_at-as : {f g : ℕ → A} {d : List A} {at m n : ℕ} {l : List A} → FilledAt f d at m l → m ≡ n → ((i : ℕ) → i < n → f i ≡ g i) → l ≡ over_at at n g d
-  filled_at-as {f} {g} {d} {at} {m} {n} p e h = filled_at-end p e ∙ over_at-cong at n f g d h

@@ -2,7 +2,9 @@ pub mod Bits
 pub mod Every
 pub mod Fill
 pub mod Lists
+pub mod Made
 pub mod Packs
+pub mod Parts
 pub mod Placed
 pub mod Searches
 pub mod Sums

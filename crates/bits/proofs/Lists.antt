@@ -1,13 +1,14 @@
 -- Laws of lists that the kit's `lib.ListN`, `lib.Seq` and `mathlib.Core.List` lack.
 -- Assumes nothing.
 use mathlib.Core.Path.{◌≡◌, refl, sym, ap, ◌∙◌}
-use mathlib.Core.List.{List, [], ◌∷◌, ◌++◌, append_assoc, append-nil, foldl, foldl-append, flat_map}
+use mathlib.Core.List.{List, [], ◌∷◌, ◌++◌, append-nil, foldl, foldl-append, flat_map}
 use Prim.Native.Nat.{ℕ, zero, suc, ◌+◌, ◌-◌, ◌<◌}
 use native.Mathlib.Nat.{sub-zero, zero-sub}
 use native.Mathlib.Numerals.{add-one}
 use native.Mathlib.Omega.{arith}
 use lib.ListN.{length, get_or, take, drop, length-append}
 use lib.Seq.{take-nil, take-suc, take_at}
+use Rattle.std.proofs.lemmas.Grind.{flat_map-append}
 use Rattle.bits.specs.Tab.{tab, over}
 use Rattle.bits.proofs.Tabs.{length-tab}
 
@@ -42,11 +43,6 @@ module _ {A B : Type 0} where
   -- one element more of a list that is gone through from the front, with a state or with a list for each
   pub foldl-more : (f : B → A → B) (b : B) (l : List A) (i : ℕ) (z : A) → i < length l → f (foldl f b (take i l)) (get_or l i z) ≡ foldl f b (take (i + 1) l)
   foldl-more f b l i z h = rw (add-one i, take-suc l i z h) (sym (foldl-append f b (take i l) (get_or l i z ∷ [])))
-
-  flat_map-append : (f : A → List B) (xs ys : List A) → flat_map f (xs ++ ys) ≡ flat_map f xs ++ flat_map f ys
-  unfolding flat_map
-  flat_map-append f [] ys = refl
-  flat_map-append f (x ∷ xs) ys = rw (flat_map-append f xs ys) (sym (append_assoc (f x) (flat_map f xs) (flat_map f ys)))
 
   pub flat_map-more : (f : A → List B) (l : List A) (i : ℕ) (z : A) → i < length l → flat_map f (take i l) ++ f (get_or l i z) ≡ flat_map f (take (i + 1) l)
   unfolding flat_map

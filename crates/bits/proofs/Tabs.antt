@@ -53,8 +53,8 @@ module _ {A : Type 0} where
       (λ l. get_or-append (tab n f) (f n ∷ []) z i (rw length-tab l) ∙ get_or-tab n f i z l)
       (eq-or-lt_of_le (le_of_suc-le-suc h))
 
-  pub get_d_over : (n : ℕ) (f : ℕ → A) (d : List A) (i : ℕ) (z : A) → i < n → get_or (over n f d) i z ≡ f i
-  get_d_over n f d i z h = get_or-append (tab n f) (drop n d) z i (rw length-tab h) ∙ get_or-tab n f i z h
+  pub get_or-over : (n : ℕ) (f : ℕ → A) (d : List A) (i : ℕ) (z : A) → i < n → get_or (over n f d) i z ≡ f i
+  get_or-over n f d i z h = get_or-append (tab n f) (drop n d) z i (rw length-tab h) ∙ get_or-tab n f i z h
 
   pub get_or-over-rest : (n : ℕ) (f : ℕ → A) (d : List A) (i : ℕ) (z : A) → n ≤ i → get_or (over n f d) i z ≡ get_or d i z
   get_or-over-rest n f d i z h =
@@ -140,8 +140,8 @@ module _ {A : Type 0} where
       long k f l = length_over k f (blank m a) (omega (arith, length-blank m a)) ∙ length-blank m a
 
       at : (j : ℕ) → j < m → Dec (j < n) → get_or (over m f (blank m a)) j a ≡ get_or (over n g (blank m a)) j a
-      at j l (yes q) = get_d_over m f _ j a l ∙ e j q ∙ sym (get_d_over n g _ j a q)
-      at j l (no q) = get_d_over m f _ j a l ∙ r j (omega arith) l ∙ sym (get_or-over-rest n g _ j a (omega arith) ∙ get_or-blank m j a a l)
+      at j l (yes q) = get_or-over m f _ j a l ∙ e j q ∙ sym (get_or-over n g _ j a q)
+      at j l (no q) = get_or-over m f _ j a l ∙ r j (omega arith) l ∙ sym (get_or-over-rest n g _ j a (omega arith) ∙ get_or-blank m j a a l)
 
 -- n cells from the place at on by a rule: by another that agrees with it there
 pub over_at-cong : {A : Type 0} (at n : ℕ) (f g : ℕ → A) (d : List A) → ((i : ℕ) → i < n → f i ≡ g i) → over_at at n f d ≡ over_at at n g d

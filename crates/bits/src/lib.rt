@@ -1,19 +1,7 @@
-// Numbers at another width, and powers of two.
+// Powers of two.
 #![tactic(auto)]
 
 ghost use Rattle.std.specs.Prelude.{◌≡◌, ◌^◌, ◌<◌, ◌≤◌};
-
-pub fn wide(x: u8) -> usize
-    ensures { result ≡ x }
-{
-    x as usize
-}
-
-pub fn wide16(x: u16) -> usize
-    ensures { result ≡ x }
-{
-    x as usize
-}
 
 // 2 to the power of k, as far as it is needed: a symbol has at most 12 bits.
 pub fn power(k: usize) -> u16

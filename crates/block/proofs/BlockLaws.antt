@@ -13,7 +13,7 @@ use Rattle.bits.specs.Bit.{bit, is_set, as_bit}
 use Rattle.bits.specs.Search.{how_many}
 use Rattle.bits.proofs.Bits.{bit-lt, bit-number, number_lt, number-cong, as_bit-is_set}
 use Rattle.bits.proofs.Searches.{first-is, how_many-mono}
-use Rattle.bits.proofs.Tabs.{get_d_over}
+use Rattle.bits.proofs.Tabs.{get_or-over}
 use Rattle.bits.proofs.Turns.{turn, turn-back}
 use Rattle.block.specs.Gray.{word_of_value, value_of_number}
 use Rattle.block.specs.Block.{word_of_codewords, symbol_of_codewords, place_in_word, word_of_number, received}
@@ -88,7 +88,7 @@ received-lt n columns wide s i = number_lt columns _ (λ k. bit-lt _ _)
 pub cell-grid : (n columns : ℕ) (b : ℕ → ℕ → Bool) (i j : ℕ) → i < n → j < columns → cell (grid n columns b) i j ≡ b i j
 unfolding cell grid row
 cell-grid n columns b i j hi hj =
-    ap (λ (r : List Bool). get_or r j false) (get_d_over n (λ i. row columns (b i)) _ i [] hi) ∙ get_d_over columns (b i) _ j false hj
+    ap (λ (r : List Bool). get_or r j false) (get_or-over n (λ i. row columns (b i)) _ i [] hi) ∙ get_or-over columns (b i) _ j false hj
 
 -- symbol word j, by way of the grid
 pub word-through-grid : (n columns : ℕ) (c : ℕ → ℕ) (j : ℕ) → j < columns

@@ -2,17 +2,18 @@
 -- Assumes nothing.
 use mathlib.Core.Path.{◌≡◌, refl, sym, ap, ◌∙◌}
 use mathlib.Core.Bool.{Bool, true, false}
-use mathlib.Core.List.{List, []}
+use mathlib.Core.List.{List, [], ◌∷◌, ◌++◌}
 use Prim.Native.Nat.{ℕ, ◌+◌, ◌-◌, ◌*◌, ◌/◌, ◌%◌, ◌^◌, ◌≤◌, ◌<◌}
 use native.Mathlib.Nat.{mod-lt, mod-add-mod, add-mul, mul_assoc, mul_comm, mul-le-mul_right, one-mul}
 use native.Mathlib.Omega.{arith}
 use lib.Arith.{digits_div, digits_mod, mod-mul}
-use lib.ListN.{get_or}
+use lib.ListN.{length, get_or, take, length-append}
 use lib.Pow.{pow-add, pow_pos, pow_mono, shl_exact}
+use lib.Seq.{get_or_at, get_or-take, length-take-le, take_at, take-take}
 use Rattle.bits.specs.Bit.{bit, number, is_set, as_bit}
 use Rattle.bits.specs.Tab.{tab, over, blank}
 use Rattle.bits.proofs.Bits.{bit-lt, bit-above, bit-number, number_lt, number-cong, number_cut, number-start, number-back, number-end, number_small, as_bit-lt}
-use Rattle.bits.proofs.Tabs.{get_d_over, over-blank, over-cong, over_none}
+use Rattle.bits.proofs.Tabs.{get_or-over, over-blank, over-cong, over_none}
 use Rattle.bits.proofs.Turns.{number-turned, number-twice}
 use Rattle.block.specs.Block.{place_in_word}
 use Rattle.block.specs.Grid.{row, grid, cell, word_of_grid, words_of_grid, grid_of_words, codeword_of_grid}
@@ -59,7 +60,7 @@ column_from n g i j = number (n - i) (λ k. as_bit (cell g (i + k) j))
 
 pub column-lt : (n : ℕ) (g : List (List Bool)) (i j : ℕ) {columns : List ℕ} → n ≤ 12 → j < 8 → columns ≡ over 8 (column_from n g i) (blank 8 0) → get_or columns j 0 < 4096
 unfolding column_from
-column-lt n g i j h l e = rw (e, get_d_over 8 (column_from n g i) (blank 8 0) j 0 l) (number_small _ (n - i) 12 (omega arith) (λ k. as_bit-lt (cell g (i + k) j)))
+column-lt n g i j h l e = rw (e, get_or-over 8 (column_from n g i) (blank 8 0) j 0 l) (number_small _ (n - i) 12 (omega arith) (λ k. as_bit-lt (cell g (i + k) j)))
 
 pub columns-none : (n : ℕ) (g : List (List Bool)) → blank 8 0 ≡ over 8 (column_from n g n) (blank 8 0)
 unfolding column_from tab
@@ -69,12 +70,42 @@ pub columns-more : (n : ℕ) (g : List (List Bool)) (i : ℕ) {columns : List �
     → over 8 (longer columns (get_or g (i - 1) [])) (blank 8 0) ≡ over 8 (column_from n g (i - 1)) (blank 8 0)
 unfolding column_from longer cell
 columns-more n g i {columns} pos h e =
-    over-cong 8 _ _ (blank 8 0) (λ j l. number-back (λ k. as_bit (cell g k j)) n i (get_or columns j 0) pos h (rw e (get_d_over 8 (column_from n g i) (blank 8 0) j 0 l)))
+    over-cong 8 _ _ (blank 8 0) (λ j l. number-back (λ k. as_bit (cell g k j)) n i (get_or columns j 0) pos h (rw e (get_or-over 8 (column_from n g i) (blank 8 0) j 0 l)))
 
 pub columns-all : (n : ℕ) (g : List (List Bool)) (i : ℕ) → i ≡ 0
     → over 8 (column_from n g i) (blank 8 0) ≡ over 8 (λ j. number n (λ k. as_bit (cell g k j))) (blank 8 0)
 unfolding column_from
 columns-all n g i e = over-cong 8 _ _ (blank 8 0) (λ j l. number-end (λ k. as_bit (cell g k j)) n i e)
+
+-- the columns of the rows behind those that are left
+pub record Gathered (n : ℕ) (g left : List (List Bool)) (columns : List ℕ) : Type 0 where
+  pub front : left ≡ take (length left) g
+  pub few : length left ≤ n
+  pub are : columns ≡ over 8 (column_from n g (length left)) (blank 8 0)
+
+pub gathered-none : (n : ℕ) (g : List (List Bool)) {left : List (List Bool)} → left ≡ take n g → n ≤ length g → Gathered n g left (blank 8 0)
+gathered-none n g e h =
+    let whole : n ≡ length (take n g) = sym (length-take-le n g h) in
+    rw e (record {
+      front = ap (λ (k : ℕ). take k g) whole;
+      few = omega arith;
+      are = columns-none n g ∙ ap (λ (i : ℕ). over 8 (column_from n g i) (blank 8 0)) whole;
+    })
+
+-- the last of the rows that are left is taken in
+pub gathered-more : {n : ℕ} {g left rest : List (List Bool)} (r : List Bool) {columns more : List ℕ} → Gathered n g left columns → left ≡ rest ++ (r ∷ [])
+    → more ≡ over 8 (longer columns r) (blank 8 0) → Gathered n g rest more
+gathered-more {n} {g} {left} {rest} r {columns} p e q =
+    let k : ℕ = length rest in
+    let long : length left ≡ k + 1 = omega (arith, ap length e, length-append rest (r ∷ [])) in
+    let back : length left - 1 ≡ k = omega arith in
+    let parts : rest ++ (r ∷ []) ≡ take (k + 1) g = sym e ∙ p.front ∙ ap (λ (i : ℕ). take i g) long in
+    let last : r ≡ get_or g k [] = sym (get_or_at rest r [] [] k refl) ∙ ap (λ (l : List (List Bool)). get_or l k []) parts ∙ get_or-take (k + 1) g k [] (omega arith) in
+    record {
+      front = sym (take_at rest (r ∷ []) k refl) ∙ ap (take k) parts ∙ take-take k (k + 1) g (omega arith);
+      few = omega (arith, p.few);
+      are = q ∙ ap (λ (x : List Bool). over 8 (longer columns x) (blank 8 0)) last ∙ rw back at (columns-more n g (length left) (omega arith) p.few p.are);
+    }
 
 -- a number of two parts moved up and cut: the lower part is left
 moved_up : (a b q r : ℕ) → 0 < a → r < b → (q * b + r) * a % (a * b) ≡ r * a
@@ -127,7 +158,7 @@ word-turned n j w r e p = (rw e at p) ∙ number-cong n _ _ (λ k l. ap (λ (i :
 -- a column has only bits of its rows
 pub plain-lt : (n : ℕ) (g : List (List Bool)) (j : ℕ) {plain : List ℕ} → j < 8 → plain ≡ over 8 (λ j. number n (λ i. as_bit (cell g i j))) (blank 8 0)
     → get_or plain j 0 < 2 ^ n
-plain-lt n g j l e = rw (e, get_d_over 8 (λ j. number n (λ i. as_bit (cell g i j))) (blank 8 0) j 0 l) (number_lt n _ (λ i. as_bit-lt (cell g i j)))
+plain-lt n g j l e = rw (e, get_or-over 8 (λ j. number n (λ i. as_bit (cell g i j))) (blank 8 0) j 0 l) (number_lt n _ (λ i. as_bit-lt (cell g i j)))
 
 pub words-of-columns : (n columns : ℕ) (g : List (List Bool)) {plain : List ℕ} → 0 < n → columns ≤ 8 → plain ≡ over 8 (λ j. number n (λ i. as_bit (cell g i j))) (blank 8 0)
     → over columns (word_of_columns n plain) (blank 8 0) ≡ words_of_grid n columns g
@@ -136,15 +167,14 @@ words-of-columns n columns g {plain} pos h e =
     over-cong columns _ _ (blank 8 0) (λ j l. number-cong n _ _ (λ k s. ap (bit ((j + k) % n)) (column j (omega arith)) ∙ bit-number n _ (λ i. as_bit-lt (cell g i j)) ((j + k) % n) (mod-lt (j + k) pos)))
   where
     column : (j : ℕ) → j < 8 → get_or plain j 0 ≡ number n (λ i. as_bit (cell g i j))
-    column j l = rw e (get_d_over 8 (λ j. number n (λ i. as_bit (cell g i j))) (blank 8 0) j 0 l)
+    column j l = rw e (get_or-over 8 (λ j. number n (λ i. as_bit (cell g i j))) (blank 8 0) j 0 l)
 
 -- the column of word j
 unfoldable pub column_of_words : ℕ → List ℕ → ℕ → ℕ
 column_of_words n ws j = number n (λ i. bit (place_in_word n i j) (get_or ws j 0))
 
-pub column-turned : (n j : ℕ) (ws : List ℕ) {s r : ℕ} → s ≡ j % n → r ≡ number n (λ i. bit ((i + n - s) % n) (get_or ws j 0)) → r ≡ column_of_words n ws j
-unfolding column_of_words
-column-turned n j ws e p = (rw e at p) ∙ number-cong n _ _ (λ i l. ap (λ (k : ℕ). bit k (get_or ws j 0)) (sym (place_is n i j l)))
+pub column-turned : (n j w : ℕ) {s r : ℕ} → s ≡ j % n → r ≡ number n (λ i. bit ((i + n - s) % n) w) → r ≡ number n (λ i. bit (place_in_word n i j) w)
+column-turned n j w e p = (rw e at p) ∙ number-cong n _ _ (λ i l. ap (λ (k : ℕ). bit k w) (sym (place_is n i j l)))
 
 -- the row that a row of columns is
 unfoldable pub row_of_columns : List ℕ → ℕ → List Bool
@@ -163,7 +193,7 @@ rows-of-columns n ws {plain} most p =
     f j i = bit (place_in_word n i j) (get_or ws j 0)
 
     inside : (i : ℕ) → i < n → (j : ℕ) → j < 8 → bit i (get_or plain j 0) ≡ f j i
-    inside i l j s = rw (p, get_d_over 8 (λ j. number n (f j)) (blank 8 0) j 0 s) (bit-number n (f j) (λ k. bit-lt _ _) i l)
+    inside i l j s = rw (p, get_or-over 8 (λ j. number n (f j)) (blank 8 0) j 0 s) (bit-number n (f j) (λ k. bit-lt _ _) i l)
 
     above : (i : ℕ) → n ≤ i → (j : ℕ) → j < 8 → bit i (get_or plain j 0) ≡ 0
-    above i l j t = rw (p, get_d_over 8 (λ j. number n (f j)) (blank 8 0) j 0 t) (bit-above n _ i l (number_lt n (f j) (λ k. bit-lt _ _)))
+    above i l j t = rw (p, get_or-over 8 (λ j. number n (f j)) (blank 8 0) j 0 t) (bit-above n _ i l (number_lt n (f j) (λ k. bit-lt _ _)))

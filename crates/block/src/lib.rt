@@ -1,12 +1,16 @@
 // A block's codewords as symbol words and back, through the grid of bits; a word as a symbol number and back.
+// Of a block's rows, 5 to 12, each contract asks what it needs: a type for them would be made, and its range shown, at each
+// call, since callers have the number from layout::Block.
 #![tactic(auto)]
 
-ghost use Rattle.std.specs.Prelude.{◌≡◌, false, ℕ, ◌+◌, ◌-◌, ◌*◌, ◌%◌, ◌^◌, ◌<◌, ◌≤◌, length, get_or};
+ghost use Rattle.std.specs.Prelude.{◌≡◌, false, ℕ, ◌+◌, ◌-◌, ◌*◌, ◌%◌, ◌^◌, ◌<◌, ◌≤◌, get_or};
 ghost use Rattle.bits.specs.Bit.{bit, number, is_set, as_bit};
 ghost use Rattle.bits.specs.Tab.{over, blank};
 ghost use Rattle.block.specs.Gray.{value_of_word, word_of_value, number_of_value, value_of_number};
 ghost use Rattle.block.specs.Block.{place_in_word, word_of_number};
 ghost use Rattle.block.specs.Grid.{row, cell, words_of_grid, grid_of_words, codeword_of_grid};
+
+use std::array;
 
 pub fn value_of_word(n: usize, w: u16) -> u16
     requires { (n ≤ 12) × (w < 2 ^ n) }
@@ -18,12 +22,14 @@ pub fn value_of_word(n: usize, w: u16) -> u16
     c ^ (c >> 8)
 }
 
+#[tactic(auto, unfolding(crate::specs::Gray::word_of_value))]
 fn word_of_value(v: u16) -> u16
     ensures { result ≡ word_of_value v }
 {
     v ^ (v / 2)
 }
 
+#[tactic(auto, unfolding(crate::specs::Gray::number_of_value))]
 pub fn number_of_value(wide: bool, v: u16) -> u16
     requires { v < 4096 }
     ensures { result ≡ number_of_value wide v }
@@ -32,6 +38,7 @@ pub fn number_of_value(wide: bool, v: u16) -> u16
 }
 
 // At the four-wide spacing the number plus 2, divided by 4: by halves, since the largest number plus 2 has no room in 16 bits.
+#[tactic(auto, unfolding(crate::specs::Gray::value_of_number))]
 pub fn value_of_number(n: usize, wide: bool, s: u16) -> u16
     requires { n ≤ 12 }
     ensures { result ≡ value_of_number n wide s }
@@ -43,6 +50,7 @@ pub fn value_of_number(n: usize, wide: bool, s: u16) -> u16
     }
 }
 
+#[tactic(auto, unfolding(crate::specs::Block::word_of_number))]
 pub fn word_of_number(n: usize, wide: bool, s: u16) -> u16
     requires { n ≤ 12 }
     ensures { result ≡ word_of_number n wide s }
@@ -65,7 +73,7 @@ fn turned_up(n: usize, s: usize, w: u16) -> u16
 {
     let all = bits::power(n);
     let low = w % all;
-    let up = ((low as u32) << s) % (all as u32);
+    let up = (u32::from(low) << s) % u32::from(all);
     up as u16 + (low >> (n - s))
 }
 
@@ -74,8 +82,9 @@ fn turned_down(n: usize, s: usize, w: u16) -> u16
     requires { (n ≤ 12) × (s ≤ n) × (w < 2 ^ n) }
     ensures { result ≡ number n (λ k. bit ((s + k) % n) w) }
 {
-    let twice = w as u32 + ((w as u32) << n);
-    ((twice >> s) % (bits::power(n) as u32)) as u16
+    let once = u32::from(w);
+    let twice = once + (once << n);
+    ((twice >> s) % u32::from(bits::power(n))) as u16
 }
 
 // The lowest bits of a codeword.
@@ -83,7 +92,7 @@ fn low_bits(columns: usize, codeword: u8) -> u8
     requires { columns ≤ 8 }
     ensures { result ≡ codeword % 2 ^ columns }
 {
-    ((codeword as u16) % bits::power(columns)) as u8
+    (u16::from(codeword) % bits::power(columns)) as u8
 }
 
 // The columns with a row more, each bit below those of its column.
@@ -91,11 +100,7 @@ fn with_row(columns: [u16; 8], row: &[bool; 8]) -> [u16; 8]
     requires { (j : ℕ) → j < 8 → get_or columns j 0 < 4096 }
     ensures { result ≡ over 8 (λ j. get_or columns j 0 * 2 + as_bit (get_or row.now j false)) (blank 8 0) }
 {
-    let mut longer = [0u16; 8];
-    for j in 0..8usize {
-        longer[j] = columns[j] * 2 + row[j] as u16;
-    }
-    longer
+    array::from_fn(|j| columns[j] * 2 + u16::from(row[j]))
 }
 
 // The bits of each column, row 0 lowest.
@@ -104,10 +109,9 @@ fn columns_of_grid(n: usize, g: [[bool; 8]; 12]) -> [u16; 8]
     ensures { result ≡ over 8 (λ j. number n (λ i. as_bit (cell g i j))) (blank 8 0) }
 {
     let mut columns = [0u16; 8];
-    let mut i = n;
-    while i > 0 {
-        i -= 1;
-        let longer = with_row(columns, &g[i]);
+    for row in g[..n].iter().rev() {
+        // In two steps, since the checker takes no call's result straight into an array.
+        let longer = with_row(columns, row);
         columns = longer;
     }
     columns
@@ -120,32 +124,36 @@ pub fn words_of_grid(n: usize, columns: usize, g: [[bool; 8]; 12]) -> [u16; 8]
 {
     let plain = columns_of_grid(n, g);
     let mut words = [0u16; 8];
-    for j in 0..columns {
-        words[j] = turned_down(n, around(n, j), plain[j]);
+    // By the place and not by zip: behind an adapter of iter_mut no proof knows what the cells hold.
+    for (j, word) in words[..columns].iter_mut().enumerate() {
+        *word = turned_down(n, around(n, j), plain[j]);
     }
     words
 }
 
-// The column of each word: bit i of column j stands in row i. The loop runs over all eight columns, so that the compiler
-// unrolls it.
+// The column of word j: its bit i stands in row i.
+fn column_of_word(n: usize, j: usize, word: u16) -> u16
+    requires { (5 ≤ n) × (n ≤ 12) × (j < 8) }
+    ensures { result ≡ number n (λ i. bit (place_in_word n i j) word) }
+{
+    turned_up(n, around(n, j), word)
+}
+
+// The column of each word: of all eight, so that the compiler unrolls the loop.
 fn columns_of_words(n: usize, words: [u16; 8]) -> [u16; 8]
     requires { (5 ≤ n) × (n ≤ 12) }
     ensures { result ≡ over 8 (λ j. number n (λ i. bit (place_in_word n i j) (get_or words j 0))) (blank 8 0) }
 {
-    let mut plain = [0u16; 8];
-    for j in 0..8usize {
-        plain[j] = turned_up(n, around(n, j), words[j]);
-    }
-    plain
+    array::from_fn(|j| column_of_word(n, j, words[j]))
 }
 
-// Row i: one bit of each column.
+// Row i: one bit of each column. Rows or a grid made by from_fn are slower: the compiler then takes no eight cells at a time.
 fn set_row(plain: &[u16; 8], i: usize, cells: &mut [bool; 8])
-    requires { (i < 12) × (length cells.old ≡ 8) }
+    requires { i < 12 }
     ensures { cells.new ≡ row 8 (λ j. is_set (bit i (get_or plain.now j 0))) }
 {
-    for j in 0..8usize {
-        cells[j] = (plain[j] >> i) % 2 == 1;
+    for (j, cell) in cells.iter_mut().enumerate() {
+        *cell = (plain[j] >> i) % 2 == 1;
     }
 }
 
@@ -156,8 +164,8 @@ pub fn grid_of_words(n: usize, words: [u16; 8]) -> [[bool; 8]; 12]
 {
     let plain = columns_of_words(n, words);
     let mut g = [[false; 8]; 12];
-    for i in 0..12usize {
-        set_row(&plain, i, &mut g[i]);
+    for (i, row) in g.iter_mut().enumerate() {
+        set_row(&plain, i, row);
     }
     g
 }
@@ -167,11 +175,12 @@ pub fn grid_of_words(n: usize, words: [u16; 8]) -> [[bool; 8]; 12]
 fn four(a: bool, b: bool, c: bool, d: bool) -> u8
     ensures { (result ≡ as_bit a + 2 * as_bit b + 4 * as_bit c + 8 * as_bit d) × (result < 16) }
 {
-    let cells = a as u64 + 256 * (b as u64) + 65536 * (c as u64) + 16777216 * (d as u64);
+    let cells = u64::from(a) + 256 * u64::from(b) + 65536 * u64::from(c) + 16777216 * u64::from(d);
     (cells * 16909320 / 16777216 % 16) as u8
 }
 
 // The bits of a row.
+#[tactic(auto, unfolding(bits::specs::Bit::number))]
 fn codeword_of_row(row: &[bool; 8]) -> u8
     ensures { result ≡ number 8 (λ j. as_bit (get_or row.now j false)) }
 {

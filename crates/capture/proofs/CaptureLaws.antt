@@ -14,7 +14,8 @@ use Rattle.text.specs.Text.{is_separator, words_from, frame_of, text_of}
 use Rattle.text.proofs.TextLaws as text-laws
 use Rattle.text.proofs.TextLaws.{meant, scanned-as, crowd, step-shuts}
 use Rattle.capture.specs.Capture.{bad, explicit, agreed_of, agreed_in, is_mark, capture_of, answer_of, outcome_is}
-use Rattle.capture.specs.Scan.{start, empty, fresh, step, run, ended, said, taken, line_at, outcome_at}
+use Rattle.text.specs.Scan.{empty}
+use Rattle.capture.specs.Scan.{start, fresh, step, run, ended, said, taken, line_at, outcome_at}
 use Rattle.capture.proofs.ScanLaws.{step-mark, step-plain, behind-mark, behind-word, run_on}
 
 -- more than 837 numbers are no frame without a header

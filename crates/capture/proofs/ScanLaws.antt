@@ -1,4 +1,4 @@
--- The struct and the list of numbers hold the state that a capture taken byte by byte has.
+-- The front of a capture, and the text behind it.
 -- Assumes nothing.
 use mathlib.Core.Path.{◌≡◌, refl, sym, ◌∙◌}
 use mathlib.Core.Bool.{Bool, true, false, not, ◌&&◌, cond, and-false, true≢false}
@@ -12,14 +12,11 @@ use lib.ListN.{length, take, drop, length-drop, take-append-drop}
 use lib.Seq.{length-take-le, take_all}
 use Rattle.bits.proofs.Lists.{length_more}
 use Rattle.text.specs.Scan as text
-use Rattle.text.specs.declared.Scan as text-struct
 use Rattle.text.specs.Text.{is_separator, is_digit}
-use Rattle.text.proofs.ScanLaws as text-laws
 use Rattle.text.proofs.TextLaws.{step-refused, step-shuts}
 use Rattle.capture.specs.Capture.{is_mark}
-use Rattle.capture.specs.Scan.{State, start, empty, fresh, step, run, ended, state_of, is_fresh, opens, Sane, Holds, Fronted, Begun}
-use Rattle.capture.specs.declared.Front.{Front}
-use Rattle.capture.specs.declared.Scan.{Scan}
+use Rattle.text.specs.Scan.{empty}
+use Rattle.capture.specs.Scan.{State, fresh, step, run, Fronted}
 
 -- a mark in its place, and any other byte
 pub step-mark : (s : State) (b : ℕ) → is_mark b && fresh s ≡ true → step s b ≡ record { agreed = true; text = text.start }
@@ -121,59 +118,13 @@ pub run-append : (s : State) (xs ys : List ℕ) → run (run s xs) ys ≡ run s 
 unfolding run
 run-append s xs ys = sym (foldl-append step s xs ys)
 
--- the text's beginning, by the struct
-pub text-start : (c : text-struct.Scan) (numbers : List ℕ) → c.refused ≡ false → c.digits ≡ 0 → c.value ≡ 0 → c.count ≡ 0 → length numbers ≡ 837
-    → text.Holds text.start c numbers
-unfolding text.run
-text-start c numbers r d v n l = text-laws.holds-start c numbers r d v n l
-
--- a struct of the beginning: nothing of the capture is taken
-pub holds-start : (c : Scan) (numbers : List ℕ) → Begun c → length numbers ≡ 837 → Holds start c numbers
-unfolding state_of start
-holds-start c numbers p l =
-    let h = text-start c.text numbers p.refused p.digits p.value p.count l in
-    record { sane = h.sane; is = rw (p.agreed, h.is) }
-
-module _ (c : Scan) (numbers : List ℕ) where
-  -- whether a byte is a mark in its place, by the struct
-  fresh-is : Sane c numbers → fresh (state_of c numbers) ≡ is_fresh c
-  unfolding fresh empty state_of text.state_of
-  fresh-is p = rw (length-take-le c.text.count numbers (omega (arith, p.placed, p.long)))
-
-  opens-is : (b : ℕ) → Sane c numbers → is_mark b && fresh (state_of c numbers) ≡ opens c b
-  opens-is b p = rw (fresh-is p)
-
-  -- it is, or it goes into the text
-  pub holds-mark : {d : text-struct.Scan} (b : ℕ) → Sane c numbers → opens c b ≡ true → text.Holds text.start d numbers
-      → Holds (step (state_of c numbers) b) (record { agreed = true; text = d }) numbers
-  unfolding state_of
-  holds-mark b p e h = record { sane = h.sane; is = rw (step-mark (state_of c numbers) b (opens-is b p ∙ e), h.is) }
-
-  pub holds_text : {d : text-struct.Scan} {later : List ℕ} (b : ℕ) → Sane c numbers → opens c b ≡ false → text.Holds (text.step (text.state_of c.text numbers) b) d later
-      → Holds (step (state_of c numbers) b) (record { agreed = c.agreed; text = d }) later
-  unfolding state_of
-  holds_text b p e h = record { sane = h.sane; is = rw (step_other (state_of c numbers) b (opens-is b p ∙ e), h.is) }
-
-  -- the end of the text
-  pub holds-ended : {d : text-struct.Scan} {later : List ℕ} → text.Holds (text.ended (text.state_of c.text numbers)) d later
-      → Holds (ended (state_of c numbers)) (record { agreed = c.agreed; text = d }) later
-  unfolding state_of ended
-  holds-ended h = record { sane = h.sane; is = rw h.is }
-
 -- a piece of which the front was taken, and the text from there on
-pub holds-rest : (s : State) (piece : List ℕ) {f : Front} {numbers : List ℕ} {d : text-struct.Scan} {later : List ℕ} → Fronted s piece f numbers
-    → text.Holds (text.run (text.state_of f.scan.text numbers) (take (length piece - f.end) (drop f.end piece))) d later
-    → Holds (run s piece) (record { agreed = f.scan.agreed; text = d }) later
-unfolding state_of
-holds-rest s piece {f} {numbers} p h =
-    record {
-      sane = h.sane;
-      is = rw (h.is, take_all (length piece - f.end) (drop f.end piece) (omega (arith, length-drop f.end piece)))
-          (sym (whole ∙ run-rest (state_of f.scan numbers) (drop f.end piece) past));
-    }
+pub piece-rest : (s : State) (piece : List ℕ) (new : State) (end : ℕ) → Fronted s piece new end
+    → record { agreed = new.agreed; text = text.run new.text (drop end piece) } ≡ run s piece
+piece-rest s piece new end p = sym (whole ∙ run-rest new (drop end piece) past)
   where
-    whole : run s piece ≡ run (state_of f.scan numbers) (drop f.end piece)
-    whole = rw (p.held.is, run-append s (take f.end piece) (drop f.end piece), take-append-drop f.end piece)
+    whole : run s piece ≡ run new (drop end piece)
+    whole = rw (p.held, run-append s (take end piece) (drop end piece), take-append-drop end piece)
 
-    past : (fresh (state_of f.scan numbers) ≡ false) ⊎ (length (drop f.end piece) ≡ 0)
-    past = ⊎_elim (λ e. inl (fresh-is f.scan numbers p.held.sane ∙ e)) (λ e. inr (omega (arith, length-drop f.end piece))) p.past
+    past : (fresh new ≡ false) ⊎ (length (drop end piece) ≡ 0)
+    past = ⊎_elim (λ e. inl e) (λ e. inr (omega (arith, length-drop end piece))) p.past

@@ -9,7 +9,7 @@ use Rattle.line.specs.declared.Outcome.TheVariants.{Heard}
 use Rattle.lora.specs.Read.{read_of}
 use Rattle.lora.specs.declared.Expected.{Expected}
 use Rattle.lora.specs.declared.Expected.TheVariants.{Explicit, Agreed}
-use Rattle.lora.specs.declared.Received.TheVariants.{Refused}
+use Rattle.refusal.specs.Refusal.{refuse}
 use Rattle.text.specs.Text.{Text, is_separator, words_from, all, is_number, value_of, frame_of, text_of, line_for}
 
 -- what a capture says: SF, low rate, what a reader expects, symbols; or it can't be taken
@@ -50,7 +50,7 @@ capture_of (b ∷ bs) =
 
 -- the line that answers a capture; any that can't be taken is refusal 14
 abbrev pub answer_to : Capture → List ℕ
-answer_to bad = line_of (Refused 14 0) []
+answer_to bad = line_of (refuse 14 0) []
 answer_to (frame sf low expected symbols) = line_for sf low expected symbols (read_of sf low expected symbols 255 832)
 
 unfoldable pub answer_of : List ℕ → List ℕ
@@ -58,7 +58,7 @@ answer_of bytes = answer_to (capture_of bytes)
 
 -- what came of a capture: what read says of its frame; any that can't be taken is refusal 14
 abbrev pub outcome_to : Capture → Outcome
-outcome_to bad = Heard (Refused 14 0)
+outcome_to bad = Heard (refuse 14 0)
 outcome_to (frame sf low expected symbols) = Heard (read_of sf low expected symbols 255 832)
 
 unfoldable pub outcome_is : List ℕ → Outcome

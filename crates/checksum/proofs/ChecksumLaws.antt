@@ -1,20 +1,18 @@
 -- Laws of the payload checksum.
 -- Assumes nothing.
 use mathlib.Core.Bool.{cond}
-use mathlib.Core.Path.{◌≡◌, sym, ap, ◌∙◌}
+use mathlib.Core.Path.{◌≡◌, refl, sym, ap, ◌∙◌}
 use mathlib.Core.List.{List, [], ◌∷◌}
 use Prim.Native.Nat.{ℕ, zero, suc, ◌+◌, ◌*◌, ◌/◌, ◌%◌, ◌^◌, ◌<◌, ◌≤◌}
 use native.Mathlib.Nat.{add_assoc, mul_comm, mul_assoc, add-mul, pow-suc, zero-div}
 use native.Mathlib.Decide.{dec_lt}
-use native.Mathlib.Numerals.{add-one}
 use native.Mathlib.Omega.{arith}
 use borrow.Author.Tests.{lt-ltb, le-ltb}
-use lib.ListN.{length, get_or, drop, drop_of_length-le}
-use lib.Seq.{drop-cons}
 use lib.Arith.{mod-mul}
 use lib.Dec.{ltb}
 use lib.Pow.{pow_pos, pow_mono}
 use lib.Bits.{bit_xor, xor_shr, xor_zero_r, xor_shifted, xor_block}
+use Rattle.std.proofs.Common.{fold}
 use Rattle.bits.specs.Bit.{bit}
 use Rattle.bits.proofs.Bits.{bit-lt}
 use Rattle.bits.proofs.Xor.{xor-swap}
@@ -109,12 +107,8 @@ one_byte-table r byte h =
     let low : byte % 256 ≡ byte = omega arith in
     ap (λ (x : ℕ). low_bits 8 x byte) parts ∙ rw low at (low_bits-xor 8 8 (r / 256 * 256) (r % 256) byte (omega arith) (omega arith))
 
--- one of the bytes that are left is taken
-pub remainder-more : {x : ℕ} (s : List ℕ) (i r : ℕ) → i < length s → x ≡ one_byte r (get_or s i 0) → remainder r (drop i s) ≡ remainder x (drop (i + 1) s)
+-- the bytes taken in, one after the other
+pub remainder-fold : (r : ℕ) (bytes : List ℕ) → remainder r bytes ≡ fold one_byte r bytes
 unfolding remainder
-remainder-more s i r h e = rw (drop-cons s i 0, e, add-one)
-
--- no byte left
-pub remainder-end : (s : List ℕ) (i r : ℕ) → length s ≤ i → remainder r (drop i s) ≡ r
-unfolding remainder
-remainder-end s i r h = rw (drop_of_length-le s h)
+remainder-fold r [] = refl
+remainder-fold r (byte ∷ bytes) = remainder-fold (one_byte r byte) bytes

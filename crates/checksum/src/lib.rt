@@ -29,21 +29,24 @@ const TABLE: [u16; 256] = [
     20053, 24180, 11923, 16050, 3793, 7920,
 ];
 
-// One byte more. The table is lent, since a constant array is copied at each use.
+// The table, to be lent: a constant array is copied at each use.
+fn table() -> [u16; 256]
+    ensures { result ≡ tab 256 entry }
+{
+    TABLE
+}
+
+// One byte more.
 fn one_byte(table: &[u16; 256], r: u16, byte: u8) -> u16
     requires { table.now ≡ tab 256 entry }
     ensures { result ≡ one_byte r byte }
 {
-    table[(r / 256) as usize] ^ (r % 256 * 256 + byte as u16)
+    table[usize::from(r / 256)] ^ (r % 256 * 256 + u16::from(byte))
 }
 
 pub fn checksum(payload: &[u8]) -> u16
     ensures { result ≡ checksum payload.now }
 {
-    let table = TABLE;
-    let mut r: u16 = 0;
-    for i in 0..payload.len() {
-        r = one_byte(&table, r, payload[i]);
-    }
-    r
+    let table = table();
+    payload.iter().fold(0, |r, &byte| one_byte(&table, r, byte))
 }

@@ -11,8 +11,9 @@ ghost use Rattle.codeword.specs.Rows.{row_of_code};
 pub const WORDS: usize = 480;
 
 // What each of them is read as, CR 1 first, 16 words a line. A reading is a byte of two hex digits, so that it can be told and
-// counted without a branch: the bit that is flipped, and the nibble. 8d is the nibble d, taken; jd is repaired to it, by
-// flipping bit j; 90 can't be read, which is so of no word at CR 3.
+// counted without a branch (of an enum the compiler chose between the cases at every codeword, which took longer): the bit that
+// is flipped, and the nibble. 8d is the nibble d, taken; jd is repaired to it, by flipping bit j; 90 can't be read, which is so
+// of no word at CR 3.
 const READINGS: [u8; WORDS] = *b"\
     \x80\x90\x90\x83\x90\x85\x86\x90\x90\x89\x8a\x90\x8c\x90\x90\x8f\
     \x90\x81\x82\x90\x84\x90\x90\x87\x88\x90\x90\x8b\x90\x8d\x8e\x90\
@@ -156,7 +157,7 @@ pub fn read_word(readings: &[u8; WORDS], cr: u8, w: u8) -> u8
     requires { (readings.now ≡ reading_table) × Rate cr × (w < 2 ^ (4 + cr)) }
     ensures { result ≡ reading_of cr w }
 {
-    let place = bits::wide16(bits::power(4 + bits::wide(cr))) - 32 + bits::wide(w);
+    let place = usize::from(bits::power(4 + usize::from(cr))) - 32 + usize::from(w);
     readings[place]
 }
 

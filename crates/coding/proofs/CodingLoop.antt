@@ -14,7 +14,7 @@ use Rattle.bits.specs.Bit.{bit, is_set}
 use Rattle.bits.specs.Tab.{tab, over, over_at, blank}
 use Rattle.bits.proofs.Bits.{number_lt, as_bit-lt}
 use Rattle.bits.proofs.Fill.{Filled, filled_none, filled_on, filled-end}
-use Rattle.bits.proofs.Tabs.{get_or-blank, get_or-tab, get_d_over, over-blank}
+use Rattle.bits.proofs.Tabs.{get_or-blank, get_or-tab, get_or-over, over-blank}
 use Rattle.block.specs.Gray.{value_of_word, number_of_value}
 use Rattle.block.specs.Grid.{row, grid, cell, word_of_grid, words_of_grid}
 use Rattle.block.proofs.GrayLaws.{value-lt}
@@ -62,16 +62,6 @@ grid-laid B nibbles fits small el ef en e =
     (over-blank B.rows 12 _ _ (blank 8 false) fits.rows-high (λ i h. rw (lt-ltb i B.rows h) (row_is B.rate _ fits.rate-low (small (B.codeword + i))))
     (λ i h l. rw (le-ltb i B.rows h)))
 
--- symbol j of a block of so many rows and this spacing, from its listed words
-unfoldable pub symbol_from : ℕ → Bool → List ℕ → ℕ → ℕ
-symbol_from rows wide words j = number_of_value wide (value_of_word rows (get_or words j 0))
-
--- its value made first
-pub symbol-made : {s v : ℕ} (rows : ℕ) (wide : Bool) (words : List ℕ) (j : ℕ) → v ≡ value_of_word rows (get_or words j 0) → s ≡ number_of_value wide v
-    → s ≡ symbol_from rows wide words j
-unfolding symbol_from
-symbol-made rows wide words j v s = rw (s, v)
-
 -- a value of at most 12 rows has 12 bits
 pub value-small : {v : ℕ} (rows w : ℕ) → rows ≤ 12 → v ≡ value_of_word rows w → v < 4096
 value-small rows w h e = rw e (lt_of_lt_of_le (value-lt rows w) (pow_mono h))
@@ -81,13 +71,13 @@ pub word_small : {words : List ℕ} (rows columns : ℕ) (g : List (List Bool)) 
     → get_or words j 0 < 2 ^ rows
 unfolding words_of_grid word_of_grid
 word_small rows columns g j q h =
-    rw (q, get_d_over columns (word_of_grid rows g) (blank 8 0) j 0 h) (number_lt rows _ (λ k. as_bit-lt (cell g ((j + k) % rows) j)))
+    rw (q, get_or-over columns (word_of_grid rows g) (blank 8 0) j 0 h) (number_lt rows _ (λ k. as_bit-lt (cell g ((j + k) % rows) j)))
 
--- symbols made of such words are those of the grid
-pub symbol-of-words : {words : List ℕ} (B : Block) (columns : ℕ) (g : List (List Bool)) (j : ℕ) → words ≡ words_of_grid B.rows columns g
-    → j < columns → symbol_from B.rows B.spaced words j ≡ symbol_of_column B g j
-unfolding symbol_from symbol_of_column words_of_grid
-symbol-of-words B columns g j q h = rw (q, get_d_over columns (word_of_grid B.rows g) (blank 8 0) j 0 h)
+-- and a symbol made of one of them is the grid's
+pub symbol-made : {s v : ℕ} {words : List ℕ} (B : Block) (columns : ℕ) (g : List (List Bool)) (j : ℕ) → words ≡ words_of_grid B.rows columns g → j < columns
+    → v ≡ value_of_word B.rows (get_or words j 0) → s ≡ number_of_value B.spaced v → s ≡ symbol_of_column B g j
+unfolding symbol_of_column words_of_grid
+symbol-made B columns g j q h v s = rw (s, v, q, get_or-over columns (word_of_grid B.rows g) (blank 8 0) j 0 h)
 
 -- a frame with a payload of len bytes
 module _ (F : Frame) (v : Valid F) (len : ℕ) where

@@ -3,22 +3,27 @@
 use mathlib.Core.Path.{◌≡◌, refl, sym, ap, ◌∙◌, fun_ext}
 use mathlib.Core.Bool.{Bool, true, false}
 use mathlib.Core.List.{List}
-use Prim.Native.Nat.{ℕ, ◌+◌, ◌-◌, ◌*◌, ◌/◌, ◌%◌, ◌<◌, ◌≤◌}
+use Prim.Native.Nat.{ℕ, zero, suc, ◌+◌, ◌-◌, ◌*◌, ◌/◌, ◌%◌, ◌<◌, ◌≤◌}
 use native.Mathlib.Nat.{add-zero}
 use native.Mathlib.Decide.{dec_lt}
 use native.Mathlib.Omega.{arith}
 use lib.Bits.{bit_xor}
 use lib.Dec.{eqb}
-use lib.ListN.{length, get_or, set, get_or-eq_default}
+use lib.ListN.{length, get_or, take, set, get_or-eq_default}
 use borrow.Author.Tests.{lt-ltb, le-ltb, eq-eqb, ne_eqb}
-use Rattle.bits.specs.Tab.{over, over_at, blank}
+use Rattle.std.proofs.lemmas.List.{length-take-le, get_or-take}
+use Rattle.std.specs.Int.{w16, to_le_bytes}
+use Rattle.bits.specs.Tab.{over, over_at, blank, Bytes}
 use Rattle.bits.proofs.Fill.{Filled, filled_on, FilledAt, filled_at-none, filled_at-more, filled_at-on, filled_at-end}
-use Rattle.bits.proofs.Tabs.{length-blank, length_over, get_d_over, over-cong, over-blank, over_at-cong}
+use Rattle.bits.proofs.Tabs.{length-blank, length_over, get_or-over, over-cong, over-blank, over_at-cong}
+use Rattle.layout.specs.declared.Frame.{Frame}
 use Rattle.layout.specs.Layout.{data_nibbles}
 use Rattle.layout.proofs.LayoutLaws.{data-le}
 use Rattle.whitening.specs.Whitening.{whitening, whitened}
 use Rattle.coding.specs.Nibbles.{half_of, nibble_of_bytes, data_byte, data_nibble, body_nibble, nibble_with}
+use Rattle.coding.specs.Ranges.{Sendable}
 use Rattle.coding.specs.Stages.{places, checksum_byte}
+use Rattle.coding.proofs.CodingLaws.{nibble-lt}
 
 -- a byte gives two nibbles
 pub two-nibbles : (byte at : ℕ) (d : List ℕ) → at + 2 ≤ length d → set (set d at (byte % 16)) (at + 1) (byte / 16) ≡ over_at at 2 (half_of byte) d
@@ -45,25 +50,29 @@ byte_more byte at p room filled q =
 
 -- the payload's bytes copied, whitened and put
 pub payload-put : {bytes white next : List ℕ} (payload : List ℕ) (at : ℕ) (d e : List ℕ) → bytes ≡ over (length payload) (λ i. get_or payload i 0) e
-    → white ≡ over (length payload) (whitened (λ i. get_or bytes i 0)) bytes → next ≡ over_at at (2 * length payload) (nibble_of_bytes (λ p. get_or white p 0)) d
+    → white ≡ over (length payload) (whitened (λ i. get_or bytes i 0)) bytes → length payload ≤ length white
+    → next ≡ over_at at (2 * length (take (length payload) white)) (nibble_of_bytes (λ p. get_or (take (length payload) white) p 0)) d
     → next ≡ over_at at (2 * length payload) (nibble_of_bytes (whitened (λ i. get_or payload i 0))) d
 unfolding nibble_of_bytes
-payload-put {bytes} {white} payload at d e copied turned q =
-    q ∙ over_at-cong at (2 * length payload) _ _ d (λ i h. ap (λ (x : ℕ). half_of x i) (same (i / 2) (omega arith)))
+payload-put {bytes} {white} payload at d e copied turned room q =
+    rw (length-take-le (length payload) white room) at q ∙ over_at-cong at (2 * length payload) _ _ d (λ i h. ap (λ (x : ℕ). half_of x i) (same (i / 2) (omega arith)))
   where
-    same : (p : ℕ) → p < length payload → get_or white p 0 ≡ whitened (λ i. get_or payload i 0) p
+    same : (p : ℕ) → p < length payload → get_or (take (length payload) white) p 0 ≡ whitened (λ i. get_or payload i 0) p
     same p h =
-        let byte : get_or bytes p 0 ≡ get_or payload p 0 = rw copied (get_d_over (length payload) (λ i. get_or payload i 0) e p 0 h) in
-        rw turned (get_d_over (length payload) (whitened (λ i. get_or bytes i 0)) bytes p 0 h ∙ ap (λ (x : ℕ). bit_xor x (whitening p)) byte)
+        let byte : get_or bytes p 0 ≡ get_or payload p 0 = rw copied (get_or-over (length payload) (λ i. get_or payload i 0) e p 0 h) in
+        get_or-take (length payload) white p 0 h ∙ rw turned (get_or-over (length payload) (whitened (λ i. get_or bytes i 0)) bytes p 0 h ∙ ap (λ (x : ℕ). bit_xor x (whitening p)) byte)
 
 -- the checksum's bytes, low byte first
-pub checksum-put : {l next : List ℕ} (checksum at : ℕ) (d : List ℕ) → at + 4 ≤ length d → l ≡ over_at at 2 (half_of (checksum % 256)) d
-    → next ≡ over_at (at + 2) 2 (half_of (checksum / 256)) l → next ≡ over_at at 4 (nibble_of_bytes (checksum_byte checksum)) d
-unfolding checksum_byte
-checksum-put {l} {next} checksum at d room one two =
-    let start : l ≡ over_at (at + 0) 2 (half_of (checksum % 256)) d = rw add-zero one in
-    let byte : ℕ → ℕ = checksum_byte checksum in
-    filled_at-end (byte_more byte at 1 (omega arith) (byte_more byte at 0 (omega arith) (filled_at-none _ d at (omega arith)) start) two) refl
+pub checksum-put : {bytes next : List ℕ} (checksum at : ℕ) (d : List ℕ) → checksum < 65536 → bytes ≡ to_le_bytes w16 checksum
+    → next ≡ over_at at (2 * length bytes) (nibble_of_bytes (λ p. get_or bytes p 0)) d → next ≡ over_at at 4 (nibble_of_bytes (checksum_byte checksum)) d
+unfolding nibble_of_bytes checksum_byte
+checksum-put checksum at d small listed q =
+    rw listed at q ∙ over_at-cong at 4 _ _ d (λ i h. ap (λ (x : ℕ). half_of x i) (same (i / 2) (omega arith)))
+  where
+    same : (p : ℕ) → p < 2 → get_or (to_le_bytes w16 checksum) p 0 ≡ checksum_byte checksum p
+    same zero h = refl
+    same (suc zero) h = omega arith
+    same (suc (suc p)) h = absurd (omega arith)
 
 -- the nibbles of a frame with this header, payload, checksum and checksum flag, laid out in d
 module _ (header payload : List ℕ) (checksum : ℕ) (flag : Bool) where
@@ -153,5 +162,11 @@ module _ (header payload : List ℕ) (checksum : ℕ) (flag : Bool) where
       long = ap length e ∙ length_over places _ (blank places 0) (omega (arith, length-blank {A = ℕ} places 0)) ∙ length-blank places 0
 
       at : (i : ℕ) → Dec (i < places) → get_or l i 0 ≡ nibble i
-      at i (yes h) = rw e (get_d_over places nibble (blank places 0) i 0 h)
+      at i (yes h) = rw e (get_or-over places nibble (blank places 0) i 0 h)
       at i (no h) = get_or-eq_default l 0 {n = i} (omega (arith, long)) ∙ sym (at-filler i (omega (arith, count-le few short)))
+
+-- and they are nibbles
+pub laid-small : {F : Frame} {l : List ℕ} (header payload : List ℕ) (checksum : ℕ) (flag : Bool) → Sendable F header payload → length header ≤ 5 → Bytes payload
+    → checksum < 65536 → l ≡ over places (nibble_with header payload checksum flag) (blank places 0) → (i : ℕ) → get_or l i 0 < 16
+laid-small header payload checksum flag s few bytes small e i =
+    rw (ap (λ (f : ℕ → ℕ). f i) (laid-nibbles header payload checksum flag few s.short e)) (nibble-lt header payload checksum flag i s bytes small)

@@ -20,52 +20,43 @@ const FILLER: u8 = 0;
 // Places for nibbles: the largest frame has 519, and its last block room for fewer than 12 more. Contracts have it as `places`.
 const PLACES: usize = 532;
 
-fn copy(from: &[u8], to: &mut [u8])
-    requires { length from.now ≤ length to.old }
-    ensures { to.new ≡ over (length from.now) (λ i. get_or from.now i 0) to.old }
-{
-    for i in 0..from.len() {
-        to[i] = from[i];
-    }
-}
-
 // A byte gives its low nibble first.
 fn put_byte(byte: u8, at: usize, nibbles: &mut [u8; PLACES])
-    requires { (at + 2 ≤ places) × (length nibbles.old ≡ places) }
+    requires { at + 2 ≤ places }
     ensures { nibbles.new ≡ over_at at 2 (half_of byte) nibbles.old }
 {
     nibbles[at] = byte % 16;
     nibbles[at + 1] = byte / 16;
 }
 
-// The first bytes of a list.
-fn put_bytes(bytes: &[u8; LONGEST], count: usize, at: usize, nibbles: &mut [u8; PLACES])
-    requires { (count ≤ 255) × (at ≤ 5) × (length nibbles.old ≡ places) }
-    ensures { nibbles.new ≡ over_at at (2 * count) (nibble_of_bytes (λ p. get_or bytes.now p 0)) nibbles.old }
+// A list's bytes, one behind the other.
+fn put_bytes(bytes: &[u8], at: usize, nibbles: &mut [u8; PLACES])
+    requires { at + 2 * length bytes.now ≤ places }
+    ensures { nibbles.new ≡ over_at at (2 * length bytes.now) (nibble_of_bytes (λ p. get_or bytes.now p 0)) nibbles.old }
 {
-    for p in 0..count {
-        put_byte(bytes[p], at + 2 * p, nibbles);
+    // The place is computed: std says nothing of a list behind `chunks_exact_mut`.
+    for (p, byte) in bytes.iter().enumerate() {
+        put_byte(*byte, at + 2 * p, nibbles);
     }
 }
 
 // The payload behind the header, whitened.
 fn put_payload(payload: &[u8], at: usize, nibbles: &mut [u8; PLACES])
-    requires { (length payload.now ≤ 255) × (at ≤ 5) × (length nibbles.old ≡ places) }
+    requires { (length payload.now ≤ 255) × (at ≤ 5) }
     ensures { nibbles.new ≡ over_at at (2 * length payload.now) (nibble_of_bytes (whitened (λ p. get_or payload.now p 0))) nibbles.old }
 {
     let mut bytes = [0u8; LONGEST];
-    copy(payload, &mut bytes);
+    bytes[..payload.len()].copy_from_slice(payload);
     whitening::whiten(&mut bytes, payload.len());
-    put_bytes(&bytes, payload.len(), at, nibbles);
+    put_bytes(&bytes[..payload.len()], at, nibbles);
 }
 
 // The checksum behind the payload, low byte first.
 fn put_checksum(checksum: u16, at: usize, nibbles: &mut [u8; PLACES])
-    requires { (at + 4 ≤ places) × (length nibbles.old ≡ places) }
+    requires { at + 4 ≤ places }
     ensures { nibbles.new ≡ over_at at 4 (nibble_of_bytes (checksum_byte checksum)) nibbles.old }
 {
-    put_byte((checksum % 256) as u8, at, nibbles);
-    put_byte((checksum / 256) as u8, at + 2, nibbles);
+    put_bytes(&checksum.to_le_bytes(), at, nibbles);
 }
 
 // All nibbles of a frame, with fillers for every place that its last block may have.
@@ -79,7 +70,7 @@ fn put_frame(
     requires { (length header.now ≤ 5) × (length payload.now ≤ 255) × (nibbles.old ≡ blank places 0) }
     ensures { nibbles.new ≡ over places (nibble_with header.now payload.now checksum checked) nibbles.old }
 {
-    copy(header, nibbles);
+    nibbles[..header.len()].copy_from_slice(header);
     put_payload(payload, header.len(), nibbles);
     if checked {
         put_checksum(checksum, header.len() + 2 * payload.len(), nibbles);
@@ -91,13 +82,13 @@ fn grid_of_block(b: Block, rows: &[[bool; 8]; 64], nibbles: &[u8; PLACES]) -> [[
     requires { Fits b × (b.codeword ≤ 519) × (rows.now ≡ tab 64 row_of_code) × ((i : ℕ) → get_or nibbles.now i 0 < 16) }
     ensures { result ≡ grid_of_nibbles b (λ i. get_or nibbles.now i 0) }
 {
-    let line = 16 * (bits::wide(b.rate) - 1);
+    let line = 16 * (usize::from(b.rate) - 1);
     let first = b.codeword;
     let n = b.rows;
     let mut g = [[false; 8]; 12];
-    for i in 0..12usize {
+    for (i, row) in g.iter_mut().enumerate() {
         if i < n {
-            g[i] = rows[line + bits::wide(nibbles[first + i])];
+            *row = rows[line + usize::from(nibbles[first + i])];
         }
     }
     g
@@ -108,13 +99,11 @@ fn write_block(b: Block, g: [[bool; 8]; 12], out: &mut [u16])
     requires { Fits b × (b.symbol + (4 + b.rate) ≤ length out.old) }
     ensures { out.new ≡ over_at b.symbol (4 + b.rate) (symbol_of_column b g) out.old }
 {
-    let rows = b.rows;
-    let wide = b.spaced;
-    let first = b.symbol;
-    let columns = 4 + bits::wide(b.rate);
-    let words = block::words_of_grid(rows, columns, g);
-    for j in 0..columns {
-        out[first + j] = block::number_of_value(wide, block::value_of_word(rows, words[j]));
+    let columns = 4 + usize::from(b.rate);
+    let words = block::words_of_grid(b.rows, columns, g);
+    // By number, since std says nothing of a list behind `iter_mut().zip()`.
+    for (j, symbol) in out[b.symbol..b.symbol + columns].iter_mut().enumerate() {
+        *symbol = block::number_of_value(b.spaced, block::value_of_word(b.rows, words[j]));
     }
 }
 
@@ -128,6 +117,7 @@ pub fn write_frame(f: Frame, header: &[u8], payload: &[u8], checksum: u16, out: 
     let mut nibbles = [FILLER; PLACES];
     put_frame(header, payload, checksum, f.checked, &mut nibbles);
     let rows = codeword::rows();
+    // A block's place and shape are computed from its number.
     for k in 0..blocks {
         let b = layout::block_at(f, k);
         write_block(b, grid_of_block(b, &rows, &nibbles), out);

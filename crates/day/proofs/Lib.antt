@@ -5,6 +5,6 @@ pub mod Examples
 pub mod ReaderLaws
 pub mod ScriptLaws
 pub mod SectionLaws
-pub mod SettingLaws
+pub mod SeenLaws
 pub mod StepLaws
 pub mod WalkLaws

@@ -9,12 +9,14 @@ use borrow.Author.Tests.{ltb-true}
 use lib.Dec.{leb, ltb, eqb}
 use lib.ListN.{length, take, drop, length-append, length-drop}
 use lib.Seq.{take_at}
+use Rattle.std.specs.Prelude.{Ok}
+use Rattle.refusal.specs.Refusal.{refuse}
 use Rattle.day.specs.Script.{Script, Walked, came, stop, walk, put_each, good_each}
 use Rattle.day.specs.Day.{Setting, Frame, Kind, within, is_byte, is_flag, is_cr, frame, any_byte, low_first}
 use Rattle.day.specs.Stages.{settings_before}
 use Rattle.day.specs.Walk.{Found, a_setting, a_frame, a_refused, the_end, in_refused, in_frames, in_settings, at_start, entry_of, from, shown, payload_of}
 use Rattle.day.specs.declared.Place.{Place}
-use Rattle.day.specs.declared.Entry.TheVariants.{Frame as FrameHere, End, Stop as Stopped}
+use Rattle.day.specs.declared.Entry.TheVariants.{Frame as FrameHere, End}
 use Rattle.day.proofs.ScriptLaws.{both_true, Stands, stands-split, bind-only, done-only}
 use Rattle.day.proofs.DayLaws.{frame-lawful}
 
@@ -89,15 +91,15 @@ module _ (bytes : List ℕ) (f : Frame) (left n next : ℕ) where
       go false false false = in-refused p.settings p.left at
 
 -- A payload that is shown lies in the file.
-pub shown-lies : (k : Kind) (bytes : List ℕ) (p q : Place) (a b c d start : ℕ) → shown k bytes p ≡ FrameHere a b c d start q → (start ≤ q.at) × (q.at ≤ length bytes)
+pub shown-lies : (k : Kind) (bytes : List ℕ) (p q : Place) (a b c d start : ℕ) → shown k bytes p ≡ Ok (FrameHere a b c d start q) → (start ≤ q.at) × (q.at ≤ length bytes)
 unfolding shown
 shown-lies k bytes p q a b c d start e = go (walk (from k bytes p) bytes p.at) refl e
   where
-    ends : (at : ℕ) (t : Bool) → cond t End (Stopped 15 at) ≡ FrameHere a b c d start q → (start ≤ q.at) × (q.at ≤ length bytes)
+    ends : (at : ℕ) (t : Bool) → cond t (Ok End) (refuse 15 at) ≡ Ok (FrameHere a b c d start q) → (start ≤ q.at) × (q.at ≤ length bytes)
     ends at true r = absurd (let z : ◌≡◌ {A = ℕ} 0 1 = cc in omega arith)
     ends at false r = absurd (let z : ◌≡◌ {A = ℕ} 0 1 = cc in omega arith)
 
-    go : (w : Walked Found) → walk (from k bytes p) bytes p.at ≡ w → entry_of bytes w ≡ FrameHere a b c d start q → (start ≤ q.at) × (q.at ≤ length bytes)
+    go : (w : Walked Found) → walk (from k bytes p) bytes p.at ≡ w → entry_of bytes w ≡ Ok (FrameHere a b c d start q) → (start ≤ q.at) × (q.at ≤ length bytes)
     go (came (a_setting s l n) next) w r = absurd (let z : ◌≡◌ {A = ℕ} 0 1 = cc in omega arith)
     go (came (a_frame f l n) next) w r =
         let (at, v) = anywhere bytes f l n next k p p.at w in
@@ -129,7 +131,7 @@ pub shown-short : (k : Kind) (bytes : List ℕ) (p : Place) → length (payload_
 unfolding shown
 shown-short k bytes p = go (walk (from k bytes p) bytes p.at) refl
   where
-    ends : (at : ℕ) (t : Bool) → length (payload_of (cond t End (Stopped 15 at)) bytes) ≤ 255
+    ends : (at : ℕ) (t : Bool) → length (payload_of (cond t (Ok End) (refuse 15 at)) bytes) ≤ 255
     ends at true = omega arith
     ends at false = omega arith
 

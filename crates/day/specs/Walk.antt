@@ -1,12 +1,14 @@
 -- A file walked entry by entry, from any place on.
 -- Assumes nothing.
-use Rattle.std.specs.Prelude.{false, cond, List, [], ℕ, zero, suc, ◌+◌, ◌-◌, eqb, length, take, drop}
+use Rattle.std.specs.Prelude.{false, cond, List, [], ℕ, zero, suc, ◌+◌, ◌-◌, eqb, length, take, drop, Result, Ok, Err}
+use Rattle.refusal.specs.Refusal.{refuse}
+use Rattle.refusal.specs.declared.Refusal.{Refusal}
 use Rattle.day.specs.Script.{Script, done, ◌>>=◌, one, walk, Walked, came, stop}
 use Rattle.day.specs.Day.{Setting, Frame, RefusedFrame, Kind, count, setting, frame, refused_frame}
 use Rattle.day.specs.Stages.{settings_before}
 use Rattle.day.specs.declared.Place.{Place}
 use Rattle.day.specs.declared.Entry.{Entry}
-use Rattle.day.specs.declared.Entry.TheVariants.{Setting as SettingHere, Frame as FrameHere, Refused as RefusedHere, End, Stop}
+use Rattle.day.specs.declared.Entry.TheVariants.{Setting as SettingHere, Frame as FrameHere, Refused as RefusedHere, End}
 
 -- what a walker comes upon: an entry, how many its section has behind it, and how many settings the file has; or the end
 pub data Found : Type 0 where
@@ -36,13 +38,13 @@ at_start k earlier = do
   in_settings k earlier n n
 
 -- it is told as an entry; behind the last one the file ends
-abbrev pub entry_of : List ℕ → Walked Found → Entry
-entry_of bytes (came (a_setting s left settings) next) = SettingHere s.sf s.low (record { at = next; section = 1; left = left; settings = settings })
+abbrev pub entry_of : List ℕ → Walked Found → Result Entry Refusal
+entry_of bytes (came (a_setting s left settings) next) = Ok (SettingHere s.sf s.low (record { at = next; section = 1; left = left; settings = settings }))
 entry_of bytes (came (a_frame f left settings) next) =
-    FrameHere f.setting f.cr f.flag f.repairs (next - length f.payload) (record { at = next; section = 2; left = left; settings = settings })
-entry_of bytes (came (a_refused r left settings) next) = RefusedHere r.setting r.number r.place (record { at = next; section = 3; left = left; settings = settings })
-entry_of bytes (came the_end next) = cond (eqb next (length bytes)) End (Stop 15 next)
-entry_of bytes (stop number place) = Stop number place
+    Ok (FrameHere f.setting f.cr f.flag f.repairs (next - length f.payload) (record { at = next; section = 2; left = left; settings = settings }))
+entry_of bytes (came (a_refused r left settings) next) = Ok (RefusedHere r.setting r.number r.place (record { at = next; section = 3; left = left; settings = settings }))
+entry_of bytes (came the_end next) = cond (eqb next (length bytes)) (Ok End) (refuse 15 next)
+entry_of bytes (stop number place) = refuse number place
 
 -- from a place on, by its section: 0 before the first byte, 1 settings, 2 frames, else refused frames
 abbrev pub from : Kind → List ℕ → Place → Script Found
@@ -53,24 +55,24 @@ from k bytes p =
     (in_refused p.settings p.left)))
 
 -- the entry that stands at a place
-unfoldable pub shown : Kind → List ℕ → Place → Entry
+unfoldable pub shown : Kind → List ℕ → Place → Result Entry Refusal
 shown k bytes p = entry_of bytes (walk (from k bytes p) bytes p.at)
 
 -- its payload: that part of the file
-abbrev pub payload_of : Entry → List ℕ → List ℕ
-payload_of (FrameHere setting cr flag repairs start next) bytes = take (next.at - start) (drop start bytes)
-payload_of (SettingHere sf low next) bytes = []
-payload_of (RefusedHere setting number place next) bytes = []
-payload_of End bytes = []
-payload_of (Stop number place) bytes = []
+abbrev pub payload_of : Result Entry Refusal → List ℕ → List ℕ
+payload_of (Ok (FrameHere _ _ _ _ start next)) bytes = take (next.at - start) (drop start bytes)
+payload_of (Ok (SettingHere _ _ _)) bytes = []
+payload_of (Ok (RefusedHere _ _ _ _)) bytes = []
+payload_of (Ok End) bytes = []
+payload_of (Err e) bytes = []
 
 -- the place behind it; a walker stays at the end, and where it is refused
-abbrev pub behind : Entry → Place → Place
-behind (SettingHere sf low next) p = next
-behind (FrameHere setting cr flag repairs start next) p = next
-behind (RefusedHere setting number place next) p = next
-behind End p = p
-behind (Stop number place) p = p
+abbrev pub behind : Result Entry Refusal → Place → Place
+behind (Ok (SettingHere _ _ next)) p = next
+behind (Ok (FrameHere _ _ _ _ _ next)) p = next
+behind (Ok (RefusedHere _ _ _ next)) p = next
+behind (Ok End) p = p
+behind (Err e) p = p
 
 -- where a walk starts
 abbrev pub begin : Place

@@ -3,7 +3,7 @@
 
 ghost use Rattle.std.specs.Prelude.{◌≡◌};
 ghost use Rattle.day.specs.Day.{kind1, judged};
-ghost use Rattle.day.specs.Stages.{refusal_of, verdict};
+ghost use Rattle.day.specs.Stages.{verdict};
 
 mod entries;
 mod fields;
@@ -11,26 +11,22 @@ mod sections;
 mod walking;
 
 pub use entries::is_given;
-use fields::fault;
+use fields::field;
 pub use fields::{is_number, within};
-use sections::Part;
+use refusal::Refusal;
+use sections::{frames_part, refused_part, settings_part};
 pub use walking::entry_at;
 
-// What the whole file is: how many entries each section has; or a refusal.
-#[derive(Clone, Copy)]
-pub enum Verdict {
-    Taken {
-        settings: usize,
-        frames: usize,
-        refused: usize,
-    },
-    Refused {
-        number: u8,
-        place: usize,
-    },
+// How many entries each section of a file has.
+#[derive(Clone, Copy, Debug, PartialEq, Eq)]
+pub struct Taken {
+    pub settings: usize,
+    pub frames: usize,
+    pub refused: usize,
 }
 
-// The sections of a file; a walk starts before its first byte.
+// The sections of a file; a walk starts before its first byte. Numbers and no enum: C hands a walker's place back as it likes, and
+// `lora_day_step` tells of any byte what stands there (`shown` speaks of each).
 pub const START: u8 = 0;
 
 pub const SETTINGS: u8 = 1;
@@ -41,7 +37,7 @@ pub const REFUSED: u8 = 3;
 
 // Where a walker stands: the place of the next byte, its section (a number above 3 is as 3), how many entries of it are left,
 // and how many settings the file has.
-#[derive(Clone, Copy)]
+#[derive(Clone, Copy, Debug, PartialEq, Eq)]
 pub struct Place {
     pub at: usize,
     pub section: u8,
@@ -49,9 +45,9 @@ pub struct Place {
     pub settings: usize,
 }
 
-// What stands at a place: an entry and the place behind it, with a frame's payload from start up to that place; the end of the
-// file; or a refusal.
-#[derive(Clone, Copy)]
+// What stands at a place: an entry and the place behind it, with a frame's payload from start up to that place; or the end of the
+// file.
+#[derive(Clone, Copy, Debug, PartialEq, Eq)]
 pub enum Entry {
     Setting {
         sf: u8,
@@ -73,69 +69,25 @@ pub enum Entry {
         next: Place,
     },
     End,
-    Stop {
-        number: u8,
-        place: usize,
-    },
-}
-
-// The refusal of a section; of one that was read, for what is left behind it.
-fn refusal(part: Part) -> Verdict
-    ensures { result ≡ refusal_of part }
-{
-    match part {
-        Part::Read { entries: _, at } => Verdict::Refused {
-            number: refusal::FILE_LENGTH,
-            place: at,
-        },
-        Part::Stop { number, place } => Verdict::Refused { number, place },
-    }
 }
 
 // Checks a whole file: how many entries it has, or why it is refused and where.
-pub fn check(bytes: &[u8]) -> Verdict
+pub fn check(bytes: &[u8]) -> Result<Taken, Refusal>
     ensures { result ≡ verdict (judged kind1 bytes.now) }
 {
-    let no_mark = fault(bytes, 0, 1, 2);
-    if no_mark != 0 {
-        return Verdict::Refused {
-            number: no_mark,
-            place: 0,
-        };
-    }
-    let first = sections::settings_part(bytes);
-    let Part::Read {
-        entries: settings,
-        at: behind_settings,
-    } = first
-    else {
-        return refusal(first);
-    };
-    let second = sections::frames_part(bytes, behind_settings, settings);
-    let Part::Read {
-        entries: frames,
-        at: behind_frames,
-    } = second
-    else {
-        return refusal(second);
-    };
-    let third = sections::refused_part(bytes, behind_frames, settings);
-    let Part::Read {
-        entries: refused,
-        at: end,
-    } = third
-    else {
-        return refusal(third);
-    };
-    if end != bytes.len() {
-        return Verdict::Refused {
+    field(bytes, 0, 1, 2)?;
+    let settings = settings_part(bytes)?;
+    let frames = frames_part(bytes, settings.end, settings.entries)?;
+    let refused = refused_part(bytes, frames.end, settings.entries)?;
+    if refused.end != bytes.len() {
+        return Err(Refusal {
             number: refusal::FILE_LENGTH,
-            place: end,
-        };
+            place: refused.end,
+        });
     }
-    Verdict::Taken {
-        settings,
-        frames,
-        refused,
-    }
+    Ok(Taken {
+        settings: settings.entries,
+        frames: frames.entries,
+        refused: refused.entries,
+    })
 }

@@ -1,2 +1,2 @@
 pub mod Storing
-pub mod Turns
+pub mod Written

@@ -2,15 +2,17 @@
 -- Assumes nothing.
 use mathlib.Core.Path.{◌≡◌, refl, sym, ap, ◌∙◌}
 use mathlib.Core.List.{List, [], ◌∷◌, ◌++◌, map, flat_map, append_assoc, append-nil}
-use Prim.Native.Nat.{ℕ, zero, suc, ◌+◌}
+use Prim.Native.Nat.{ℕ, zero, suc}
 use native.Mathlib.Numerals.{add-one}
 use lib.ListN.{length}
 use Rattle.day.specs.Script.{taken, refused}
+use Rattle.std.specs.Prelude.{Result, Ok, Err}
+use Rattle.refusal.specs.declared.Refusal.{Refusal}
 use Rattle.day.specs.Day.{Setting, Frame, RefusedFrame, Day, kind1, judged}
 use Rattle.day.specs.Walk.{shown, payload_of, behind, begin}
 use Rattle.day.specs.declared.Place.{Place}
 use Rattle.day.specs.declared.Entry.{Entry}
-use Rattle.day.specs.declared.Entry.TheVariants.{Setting as SettingHere, Frame as FrameHere, Refused as RefusedHere, End, Stop}
+use Rattle.day.specs.declared.Entry.TheVariants.{Setting as SettingHere, Frame as FrameHere, Refused as RefusedHere, End}
 use Rattle.show.specs.Show.{setting_line, end_line, no_line, setting_lines, line_of_frame, line_of_refused, listing, shown_file, entry_line}
 use Rattle.showing.specs.Along.{line_at, lines_along}
 use Rattle.day_promises.specs.Told.{Told, a_setting, a_frame, a_refused, told, numbered, told_in, entries_in, how_many}
@@ -22,13 +24,13 @@ line_of (a_setting index s) = setting_line index s.sf s.low
 line_of (a_frame f) = line_of_frame f
 line_of (a_refused r) = line_of_refused r
 
-entry-line : (e : Entry) (payload : List ℕ) → entry_line e payload ≡ flat_map line_of (told e payload)
+entry-line : (e : Result Entry Refusal) (payload : List ℕ) → entry_line e payload ≡ flat_map line_of (told e payload)
 unfolding entry_line flat_map
-entry-line (SettingHere sf low next) payload = sym (append-nil _)
-entry-line (FrameHere setting cr flag repairs start next) payload = sym (append-nil _)
-entry-line (RefusedHere setting number place next) payload = sym (append-nil _)
-entry-line End payload = refl
-entry-line (Stop number place) payload = refl
+entry-line (Ok (SettingHere sf low next)) payload = sym (append-nil _)
+entry-line (Ok (FrameHere setting cr flag repairs start next)) payload = sym (append-nil _)
+entry-line (Ok (RefusedHere setting number place next)) payload = sym (append-nil _)
+entry-line (Ok End) payload = refl
+entry-line (Err e) payload = refl
 
 flat_map-append : (l m : List Told) → flat_map line_of (l ++ m) ≡ flat_map line_of l ++ flat_map line_of m
 unfolding flat_map

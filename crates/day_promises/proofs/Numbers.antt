@@ -14,8 +14,9 @@ use Rattle.day.specs.Script.{one, ◌>>=◌, walk, stop, taken, good_each}
 use Rattle.day.specs.Day.{RefusedFrame, Day, kind1, within, is_number, setting, frame, refused_frame, good_section, good_day, judged}
 use Rattle.day.proofs.ScriptLaws.{both_true}
 use Rattle.day_write.specs.Write.{refused_row, entries_of, write_of, Writing}
-use Rattle.day_write.specs.declared.Written.{Written}
-use Rattle.day_write.specs.declared.Written.TheVariants.{Refused}
+use Rattle.std.specs.Prelude.{Result}
+use Rattle.refusal.specs.Refusal.{refuse}
+use Rattle.refusal.specs.declared.Refusal.{Refusal}
 use Rattle.day_promises.proofs.File.{is-the-file}
 
 -- the numbers of refused frames that a file can hold
@@ -62,7 +63,7 @@ row-bad ss fs ps rs i h eight =
     refuted _ (λ good. none-eight (entries_of ss fs ps rs) good i row (rw length-tab h) (ap (λ (x : RefusedFrame). x.number) at ∙ eight))
 
 -- A row with it is refused by the writer with 16, place 0.
-pub eight-not-written : (ss fs ps rs old new : List ℕ) (r : Written) → Writing kind1 ss fs ps rs old new r → (i : ℕ) → i < length rs / 3
-    → get_or rs (3 * i + 1) 0 ≡ 8 → r ≡ Refused 16 0
+pub eight-not-written : (ss fs ps rs old new : List ℕ) (r : Result ℕ Refusal) → Writing kind1 ss fs ps rs old new r → (i : ℕ) → i < length rs / 3
+    → get_or rs (3 * i + 1) 0 ≡ 8 → r ≡ refuse 16 0
 unfolding write_of
 eight-not-written ss fs ps rs old new r w i h eight = w.answer ∙ rw (row-bad ss fs ps rs i h eight, and-false)

@@ -7,6 +7,8 @@ use native.Mathlib.Numerals.{add-one}
 use borrow.Author.Tests.{eq-eqb}
 use native.Mathlib.Omega.{arith}
 use lib.ListN.{length}
+use Rattle.std.specs.Prelude.{Result, Ok, Err}
+use Rattle.refusal.specs.declared.Refusal.{Refusal}
 use Rattle.bits.specs.Tab.{tab}
 use Rattle.day.specs.Script.{many, came, walk}
 use Rattle.day.specs.Day.{Setting, Frame, RefusedFrame, Kind, setting, frame, refused_frame}
@@ -14,27 +16,25 @@ use Rattle.day.specs.Stages.{pair_at, settings_before}
 use Rattle.day.specs.Walk.{in_refused, in_frames, in_settings, entry_of, shown, payload_of}
 use Rattle.day.specs.declared.Place.{Place}
 use Rattle.day.specs.declared.Entry.{Entry}
-use Rattle.day.specs.declared.Entry.TheVariants.{Setting as SettingHere, Frame as FrameHere, Refused as RefusedHere, End, Stop}
+use Rattle.day.specs.declared.Entry.TheVariants.{Setting as SettingHere, Frame as FrameHere, Refused as RefusedHere, End}
 use Rattle.day.proofs.ScriptLaws.{bind-on, bind-only, done-only, done-back}
 use Rattle.day.proofs.DayLaws.{setting-lawful}
-use Rattle.day.proofs.EntryLaws.{refused-same}
-use Rattle.day.proofs.SectionLaws.{frame_same}
-use Rattle.day.proofs.SettingLaws.{stood, earlier, put-setting}
+use Rattle.day.proofs.SectionLaws.{frame_same, refused-same, stood, earlier, put-setting}
 use Rattle.day.proofs.WalkLaws.{frame-part}
 use Rattle.day_promises.specs.Told.{Told, a_frame, a_refused, told, numbered}
 
 -- the place behind an entry; of the end and of a refusal any
-abbrev pub next_of : Entry → Place
-next_of (SettingHere sf low next) = next
-next_of (FrameHere setting cr flag repairs start next) = next
-next_of (RefusedHere setting number place next) = next
-next_of End = record { at = 0; section = 0; left = 0; settings = 0 }
-next_of (Stop number place) = record { at = 0; section = 0; left = 0; settings = 0 }
+abbrev pub next_of : Result Entry Refusal → Place
+next_of (Ok (SettingHere _ _ next)) = next
+next_of (Ok (FrameHere _ _ _ _ _ next)) = next
+next_of (Ok (RefusedHere _ _ _ next)) = next
+next_of (Ok End) = record { at = 0; section = 0; left = 0; settings = 0 }
+next_of (Err e) = record { at = 0; section = 0; left = 0; settings = 0 }
 
 module _ (k : Kind) (bytes : List ℕ) where
   -- from what is shown here on, these entries are told, and then the end
-  unfoldable pub Tells : Entry → List Told → Type 0
-  Tells e [] = e ≡ End
+  unfoldable pub Tells : Result Entry Refusal → List Told → Type 0
+  Tells e [] = e ≡ Ok End
   Tells e (x ∷ more) = (told e (payload_of e bytes) ≡ x ∷ []) × Tells (shown k bytes (next_of e)) more
 
   -- refused frames up to the file's end

@@ -8,15 +8,17 @@ use native.Mathlib.Omega.{arith}
 use borrow.Author.Tests.{eqb-true}
 use lib.Dec.{eqb}
 use lib.ListN.{length, length-append, length-map}
+use Rattle.std.specs.Prelude.{Result, Ok, Err}
+use Rattle.refusal.specs.declared.Refusal.{Refusal}
 use Rattle.bits.specs.Check.{check}
 use Rattle.bits.specs.Tab.{tab}
-use Rattle.day.specs.Script.{Script, ◌>>=◌, many, Walked, came, stop, walk, taken, refused, whole}
+use Rattle.day.specs.Script.{Script, ◌>>=◌, Walked, came, stop, walk, taken, refused, whole}
 use Rattle.day.specs.Day.{Setting, Frame, RefusedFrame, Day, Kind, count, put_count, setting, frame, refused_frame, section, day, judged}
 use Rattle.day.specs.Stages.{settings_before}
 use Rattle.day.specs.Walk.{Found, in_refused, in_frames, in_settings, at_start, entry_of, shown, behind, begin}
 use Rattle.day.specs.declared.Place.{Place}
 use Rattle.day.specs.declared.Entry.{Entry}
-use Rattle.day.specs.declared.Entry.TheVariants.{Setting as SettingHere, Frame as FrameHere, Refused as RefusedHere, End, Stop}
+use Rattle.day.specs.declared.Entry.TheVariants.{Setting as SettingHere, Frame as FrameHere, Refused as RefusedHere, End}
 use Rattle.day.proofs.ScriptLaws.{bind-on, bind-only, done-only, one_only, many-only}
 use Rattle.day.proofs.DayLaws.{setting-lawful, count-spells}
 use Rattle.day_promises.specs.Told.{Told, a_frame, a_refused, told, numbered, told_in, place_after, entries_in, how_many}
@@ -76,15 +78,15 @@ module _ (k : Kind) (bytes : List ℕ) where
       rw (bind-on _ _ bytes 0 w1 refl, first, is) (settings-part ss m2 (map a_frame fs ++ map a_refused rs) (rw first at w2) told2)
 
   -- step by step
-  behind-next : (e : Entry) (p : Place) (payload : List ℕ) (x : Told) → told e payload ≡ x ∷ [] → behind e p ≡ next_of e
-  behind-next (SettingHere sf low next) p payload x q = refl
-  behind-next (FrameHere setting cr flag repairs start next) p payload x q = refl
-  behind-next (RefusedHere setting number place next) p payload x q = refl
-  behind-next End p payload x q = absurd (let z : ◌≡◌ {A = ℕ} 0 1 = ap length q in omega arith)
-  behind-next (Stop number place) p payload x q = absurd (let z : ◌≡◌ {A = ℕ} 0 1 = ap length q in omega arith)
+  behind-next : (e : Result Entry Refusal) (p : Place) (payload : List ℕ) (x : Told) → told e payload ≡ x ∷ [] → behind e p ≡ next_of e
+  behind-next (Ok (SettingHere sf low next)) p payload x q = refl
+  behind-next (Ok (FrameHere setting cr flag repairs start next)) p payload x q = refl
+  behind-next (Ok (RefusedHere setting number place next)) p payload x q = refl
+  behind-next (Ok End) p payload x q = absurd (let z : ◌≡◌ {A = ℕ} 0 1 = ap length q in omega arith)
+  behind-next (Err e) p payload x q = absurd (let z : ◌≡◌ {A = ℕ} 0 1 = ap length q in omega arith)
 
   steps : (items : List Told) (p : Place) → Tells k bytes (shown k bytes p) items
-      → (told_in k bytes (length items) p ≡ items) × (shown k bytes (place_after k bytes (length items) p) ≡ End)
+      → (told_in k bytes (length items) p ≡ items) × (shown k bytes (place_after k bytes (length items) p) ≡ Ok End)
   unfolding Tells told_in place_after
   steps [] p e = (refl, e)
   steps (x ∷ more) p (here, later) =
@@ -103,16 +105,16 @@ module _ (k : Kind) (bytes : List ℕ) where
 
   -- Of a file that is taken the walker shows all entries, in their order, each payload being the cells of the file at that place;
   -- and then the end.
-  pub shows-all : (e : Day) → judged k bytes ≡ taken e → (told_in k bytes (how_many e) begin ≡ entries_in e) × (shown k bytes (place_after k bytes (how_many e) begin) ≡ End)
+  pub shows-all : (e : Day) → judged k bytes ≡ taken e → (told_in k bytes (how_many e) begin ≡ entries_in e) × (shown k bytes (place_after k bytes (how_many e) begin) ≡ Ok End)
   unfolding judged
   shows-all e q = go (walk (day k) bytes 0) refl q
     where
       go : (w : Walked Day) → walk (day k) bytes 0 ≡ w → whole bytes w ≡ taken e
-          → (told_in k bytes (how_many e) begin ≡ entries_in e) × (shown k bytes (place_after k bytes (how_many e) begin) ≡ End)
+          → (told_in k bytes (how_many e) begin ≡ entries_in e) × (shown k bytes (place_after k bytes (how_many e) begin) ≡ Ok End)
       go (came a n) p t = at-end (eqb n (length bytes)) refl t
         where
           at-end : (b : Bool) → eqb n (length bytes) ≡ b → check b (refused 15 n) (taken a) ≡ taken e
-              → (told_in k bytes (how_many e) begin ≡ entries_in e) × (shown k bytes (place_after k bytes (how_many e) begin) ≡ End)
+              → (told_in k bytes (how_many e) begin ≡ entries_in e) × (shown k bytes (place_after k bytes (how_many e) begin) ≡ Ok End)
           at-end true r u =
               let v : a ≡ e = cc in
               rw (← how-many e) (steps (entries_in e) begin (rw (← v) (start-part a n p (eqb-true n (length bytes) r))))

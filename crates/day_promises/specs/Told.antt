@@ -1,11 +1,12 @@
 -- What a walker tells on its way through a file.
 -- Assumes nothing.
-use Rattle.std.specs.Prelude.{List, [], ◌∷◌, ◌++◌, map, ℕ, zero, suc, ◌+◌, ◌-◌, length}
+use Rattle.std.specs.Prelude.{List, [], ◌∷◌, ◌++◌, map, ℕ, zero, suc, ◌+◌, ◌-◌, length, Result, Ok, Err}
+use Rattle.refusal.specs.declared.Refusal.{Refusal}
 use Rattle.day.specs.Day.{Setting, Frame, RefusedFrame, Day, Kind}
 use Rattle.day.specs.Walk.{shown, payload_of, behind}
 use Rattle.day.specs.declared.Place.{Place}
 use Rattle.day.specs.declared.Entry.{Entry}
-use Rattle.day.specs.declared.Entry.TheVariants.{Setting as SettingHere, Frame as FrameHere, Refused as RefusedHere, End, Stop}
+use Rattle.day.specs.declared.Entry.TheVariants.{Setting as SettingHere, Frame as FrameHere, Refused as RefusedHere, End}
 
 -- an entry of any section, whole; a setting with its index
 pub data Told : Type 0 where
@@ -14,12 +15,12 @@ pub data Told : Type 0 where
   a_refused : RefusedFrame → Told
 
 -- what is told at a place, with the payload that is shown there
-abbrev pub told : Entry → List ℕ → List Told
-told (SettingHere sf low next) payload = a_setting (next.settings - 1 - next.left) (record { sf = sf; low = low }) ∷ []
-told (FrameHere setting cr flag repairs start next) payload = a_frame (record { setting = setting; cr = cr; flag = flag; repairs = repairs; payload = payload }) ∷ []
-told (RefusedHere setting number place next) payload = a_refused (record { setting = setting; number = number; place = place }) ∷ []
-told End payload = []
-told (Stop number place) payload = []
+abbrev pub told : Result Entry Refusal → List ℕ → List Told
+told (Ok (SettingHere sf low next)) payload = a_setting (next.settings - 1 - next.left) (record { sf = sf; low = low }) ∷ []
+told (Ok (FrameHere setting cr flag repairs start next)) payload = a_frame (record { setting = setting; cr = cr; flag = flag; repairs = repairs; payload = payload }) ∷ []
+told (Ok (RefusedHere setting number place next)) payload = a_refused (record { setting = setting; number = number; place = place }) ∷ []
+told (Ok End) payload = []
+told (Err e) payload = []
 
 -- in so many steps from a place on, and the place to which they lead
 unfoldable pub told_in : Kind → List ℕ → ℕ → Place → List Told

@@ -1,42 +1,21 @@
 // Many files in one, each behind its length in four bytes low first: shown one after the other, as day_show shows each.
 #![tactic(auto)]
 
-ghost use Rattle.std.specs.Prelude.{◌≤◌, length};
-ghost use Rattle.day_trials.specs.Packed.{Within};
+ghost use Rattle.std.specs.Prelude.{◌≤◌, length, IfOk, IfSome};
 
 use std::fs::File;
 use std::io::Read;
 
-// The next of the files: so many bytes at the buffer's front; none, where the last one was; or a file that was cut short.
+// A file that was cut short.
 #[derive(Clone, Copy)]
-enum Packed {
-    File(usize),
-    End,
-    Cut,
-}
-
-fn least(a: usize, b: usize) -> usize
-    ensures { (result ≤ a) × (result ≤ b) }
-{
-    if a < b { a } else { b }
-}
-
-fn small(b: u8) -> usize
-    ensures { result ≤ 255 }
-{
-    b as usize
-}
-
-// Four bytes low first.
-fn length_of(head: &[u8; 4]) -> usize {
-    small(head[0]) + 256 * small(head[1]) + 65536 * small(head[2]) + 16777216 * small(head[3])
-}
+struct Cut;
 
 // Reads until the buffer is full, the file ends or a read fails, and answers how many bytes are at the buffer's front.
 fn read_full(files: &mut File, buffer: &mut [u8]) -> usize
     ensures { result ≤ length buffer.new }
 {
     let mut done = 0;
+    // Each place is behind as many bytes as a read gave, so that no iterator has it.
     while done < buffer.len() {
         match files.read(&mut buffer[done..]) {
             Ok(0) | Err(_) => {
@@ -53,49 +32,49 @@ fn read_full(files: &mut File, buffer: &mut [u8]) -> usize
 // Reads so many bytes that are left out, and answers whether they are there.
 fn skip(files: &mut File, bytes: usize) -> bool {
     let mut chunk = [0u8; 4096];
-    let mut left = bytes;
-    while left > 4096 {
+    for _ in 0..bytes / 4096 {
         if read_full(files, &mut chunk) < 4096 {
             return false;
         }
-        left -= 4096;
     }
+    let left = bytes % 4096;
     read_full(files, &mut chunk[..left]) == left
 }
 
-// Reads the next file; of one that is longer than the buffer, its first bytes.
-fn take(files: &mut File, file: &mut [u8]) -> Packed
-    ensures { Within result file.new }
+// Reads the next file, so many bytes at the buffer's front; of one that is longer than the buffer, its first bytes. None is left where
+// the last one was.
+fn take(files: &mut File, file: &mut [u8]) -> Result<Option<usize>, Cut>
+    ensures { IfOk result (λ next. IfSome next (λ n. n ≤ length file.new)) }
 {
     let mut head = [0u8; 4];
-    let got = read_full(files, &mut head);
-    if got == 0 {
-        return Packed::End;
+    match read_full(files, &mut head) {
+        0 => {
+            return Ok(None);
+        }
+        4 => {}
+        _ => {
+            return Err(Cut);
+        }
     }
-    if got < 4 {
-        return Packed::Cut;
+    let bytes = u32::from_le_bytes(head) as usize;
+    let n = bytes.min(file.len());
+    if read_full(files, &mut file[..n]) < n || !skip(files, bytes - n) {
+        return Err(Cut);
     }
-    let bytes = length_of(&head);
-    let n = least(bytes, file.len());
-    if read_full(files, &mut file[..n]) < n {
-        return Packed::Cut;
-    }
-    if !skip(files, bytes - n) {
-        return Packed::Cut;
-    }
-    Packed::File(n)
+    Ok(Some(n))
 }
 
-// Shows so many bytes of a buffer, and answers whether all could be written.
-fn show(rt: &HostRuntime, file: &[u8], n: usize, out: &mut [u8]) -> bool
-    requires { (n ≤ length file.now) × (640 ≤ length out.old) }
+// Shows a file's bytes, and answers whether all could be written.
+fn show(rt: &HostRuntime, file: &[u8], out: &mut [u8]) -> bool
+    requires { 640 ≤ length out.old }
 {
-    let shown = showing::show(rt, &file[..n], out);
-    let sent = shown.sent;
-    if !sent.whole {
-        system::say(rt, b"writing failed\n");
+    match showing::show(rt, file, out).sent {
+        Ok(_) => true,
+        Err(_) => {
+            system::say(rt, "writing failed\n");
+            false
+        }
     }
-    sent.whole
 }
 
 // Reads and shows the next file, and answers whether there might be another.
@@ -103,22 +82,20 @@ fn show_next(rt: &HostRuntime, files: &mut File, file: &mut [u8], out: &mut [u8]
     requires { 640 ≤ length out.old }
 {
     match take(files, file) {
-        Packed::File(n) => show(rt, file, n, out),
-        Packed::End => false,
-        Packed::Cut => {
-            system::say(rt, b"the last of the files is cut short\n");
+        Ok(Some(n)) => show(rt, &file[..n], out),
+        Ok(None) => false,
+        Err(Cut) => {
+            system::say(rt, "the last of the files is cut short\n");
             false
         }
     }
 }
 
-// Shows the files one after the other. A proved loop has to end, so it counts its turns down from a number that no run uses up.
+// Shows the files one after the other. A proved loop has to end, so its turns end at a number that no run uses up.
 fn show_all(rt: &HostRuntime, files: &mut File, file: &mut [u8], out: &mut [u8])
     requires { 640 ≤ length out.old }
 {
-    let mut turns = u64::MAX;
-    while turns > 0 {
-        turns -= 1;
+    for _ in 0..u64::MAX {
         if !show_next(rt, files, file, out) {
             return;
         }
@@ -127,7 +104,7 @@ fn show_all(rt: &HostRuntime, files: &mut File, file: &mut [u8], out: &mut [u8])
 
 fn main(rt: HostRuntime) {
     let Ok(mut files) = File::open(&rt, "files") else {
-        system::say(&rt, b"there is no 'files' here\n");
+        system::say(&rt, "there is no 'files' here\n");
         return;
     };
     let mut file = [0u8; showing::FILE];

@@ -7,6 +7,7 @@ ghost use Rattle.day.specs.Day.{kind1};
 ghost use Rattle.day.specs.Walk.{shown, payload_of, behind, begin};
 
 use day::{Entry, Place};
+use refusal::Refusal;
 
 #[derive(Clone, Copy)]
 pub struct Day<'a> {
@@ -34,7 +35,7 @@ pub fn open<'a>(bytes: &'a [u8], place: Place) -> Day<'a>
 }
 
 // What stands at the walker's place.
-pub fn entry<'a>(d: Day<'a>) -> Entry
+pub fn entry<'a>(d: Day<'a>) -> Result<Entry, Refusal>
     ensures { result ≡ shown kind1 d.entry.bytes.now d.entry.place }
 {
     day::entry_at(d.bytes, d.place)
@@ -45,33 +46,11 @@ fn payload_at<'a>(bytes: &'a [u8], place: Place) -> &'a [u8]
     ensures { result.now ≡ payload_of (shown kind1 bytes.now place) bytes.now }
 {
     match day::entry_at(bytes, place) {
-        Entry::Frame {
-            setting: _,
-            cr: _,
-            flag: _,
-            repairs: _,
-            start,
-            next,
-        } => {
+        Ok(Entry::Frame { start, next, .. }) => {
             let end = next.at;
             &bytes[start..end]
         }
-        Entry::Setting {
-            sf: _,
-            low: _,
-            next: _,
-        } => &bytes[..0],
-        Entry::Refused {
-            setting: _,
-            number: _,
-            place: _,
-            next: _,
-        } => &bytes[..0],
-        Entry::End => &bytes[..0],
-        Entry::Stop {
-            number: _,
-            place: _,
-        } => &bytes[..0],
+        _ => &bytes[..0],
     }
 }
 
@@ -87,30 +66,10 @@ pub fn place_behind(bytes: &[u8], place: Place) -> Place
     ensures { result ≡ behind (shown kind1 bytes.now place) place }
 {
     match day::entry_at(bytes, place) {
-        Entry::Setting {
-            sf: _,
-            low: _,
-            next,
-        } => next,
-        Entry::Frame {
-            setting: _,
-            cr: _,
-            flag: _,
-            repairs: _,
-            start: _,
-            next,
-        } => next,
-        Entry::Refused {
-            setting: _,
-            number: _,
-            place: _,
-            next,
-        } => next,
-        Entry::End => place,
-        Entry::Stop {
-            number: _,
-            place: _,
-        } => place,
+        Ok(Entry::Setting { next, .. }) => next,
+        Ok(Entry::Frame { next, .. }) => next,
+        Ok(Entry::Refused { next, .. }) => next,
+        _ => place,
     }
 }
 
@@ -126,7 +85,7 @@ pub fn onward<'a>(d: Day<'a>) -> Day<'a>
 }
 
 // What a walker at a place tells, and the payload that it shows there, for callers that hold no walker.
-pub fn seen(bytes: &[u8], place: Place) -> Entry
+pub fn seen(bytes: &[u8], place: Place) -> Result<Entry, Refusal>
     ensures { result ≡ shown kind1 bytes.now place }
 {
     entry(open(bytes, place))

@@ -4,16 +4,19 @@ use mathlib.Core.Path.{◌≡◌, refl, sym, ap, ◌∙◌}
 use mathlib.Core.Bool.{Bool, true, false, not, ◌&&◌, and-true, and-false}
 use mathlib.Core.List.{List, [], ◌∷◌, ◌++◌, append_assoc, append-nil}
 use Prim.Native.Nat.{ℕ, zero, suc, ◌+◌, ◌*◌, ◌/◌, ◌%◌, ◌<◌, ◌≤◌}
+use native.Mathlib.Nat.{zero-add}
 use native.Mathlib.Numerals.{add-one}
 use native.Mathlib.Omega.{arith}
 use borrow.Author.Tests.{not-true, not-false, le-leb, lt-ltb, leb-true, eq-eqb, ne_eqb}
 use lib.Dec.{leb, eqb}
 use lib.ListN.{length, get_or, take, drop, length-drop}
 use lib.Seq.{length-take-le, get_or-drop}
+use Rattle.std.specs.List.{list_all, range_with_len}
+use Rattle.std.proofs.lemmas.List.Folds.{list_all-append}
 use Rattle.bits.specs.Tab.{tab, Bytes}
 use Rattle.bits.proofs.Tabs.{length-tab}
 use Rattle.day.specs.Script.{good_each}
-use Rattle.day.specs.Day.{Setting, Frame, RefusedFrame, within, is_byte, is_flag, is_sf, is_cr, is_number, given, setting, any_byte, frame, refused_frame, good_section, kind1, good_day}
+use Rattle.day.specs.Day.{Frame, RefusedFrame, setting, any_byte, frame, refused_frame, good_section, kind1, good_day}
 use Rattle.day.specs.Stages.{pair_at}
 use Rattle.day.proofs.ScriptLaws.{both_true}
 use Rattle.day_write.specs.Judging.{few_rows, row_good, rows_good}
@@ -25,6 +28,14 @@ fails {r} e f = sym e ∙ not-true r f
 
 pub holds : {r t : Bool} → r ≡ t → not r ≡ false → t ≡ true
 holds {r} e f = sym e ∙ not-false r f
+
+-- one number more in a range, and in a test of all of them
+range-more : (a n : ℕ) → range_with_len a (suc n) ≡ range_with_len a n ++ ((a + n) ∷ [])
+range-more a zero = let z : a + 0 ≡ a = omega arith in rw z refl
+range-more a (suc n) = let z : a + suc n ≡ a + 1 + n = omega arith in rw z (ap (a ∷◌) (range-more (a + 1) n))
+
+all-more : (test : ℕ → Bool) (n : ℕ) → list_all test (range_with_len 0 (suc n)) ≡ list_all test (range_with_len 0 n) && test n
+all-more test n = ap (list_all test) (range-more 0 n) ∙ list_all-append test (range_with_len 0 n) ((0 + n) ∷ []) ∙ rw (zero-add, and-true) refl
 
 -- a list of entries with one more at its end
 module _ {A : Type 0} (good : List A → A → Bool) where
@@ -38,25 +49,14 @@ module _ {A : Type 0} (good : List A → A → Bool) where
       assoc true q r = refl
       assoc false q r = refl
 
-  -- none and one more, as a loop goes on
-  pub each_none : (f : ℕ → A) → true ≡ good_each good [] (tab 0 f)
+  -- each judged in the light of those before it
+  pub all-each : (f : ℕ → A) (n : ℕ) → list_all (λ i. good (tab i f) (f i)) (range_with_len 0 n) ≡ good_each good [] (tab n f)
   unfolding good_each tab
-  each_none f = refl
-
-  pub each_next : (f : ℕ → A) (i : ℕ) (fine here r : Bool) → fine ≡ good_each good [] (tab i f) → here ≡ good (tab i f) (f i) → r ≡ fine && here → r ≡ good_each good [] (tab (i + 1) f)
-  unfolding tab
-  each_next f i fine here r p q e = rw (e, p, q, add-one i) (sym (each_more [] (tab i f) (f i)))
+  all-each f zero = refl
+  all-each f (suc n) = all-more (λ i. good (tab i f) (f i)) n ∙ rw (all-each f n) (sym (each_more [] (tab n f) (f n)))
 
 -- the number of rows
 module _ (numbers row : ℕ) where
-  pub few-whole : numbers % row ≡ 0 → leb (numbers / row) 255 ≡ few_rows numbers row
-  unfolding few_rows
-  few-whole e = rw (eq-eqb (numbers % row) 0 e)
-
-  pub few-cut : (numbers % row ≡ 0 → ⊥) → false ≡ few_rows numbers row
-  unfolding few_rows
-  few-cut e = rw (ne_eqb (numbers % row) 0 e)
-
   pub few-most : few_rows numbers row ≡ true → numbers / row ≤ 255
   unfolding few_rows
   few-most e = leb-true (numbers / row) 255 (both_true (eqb (numbers % row) 0) (leb (numbers / row) 255) e).1
@@ -71,54 +71,11 @@ module _ (rows : List ℕ) where
   unfolding lengths_before
   lengths-next i sum len p q = rw (p, q, add-one i)
 
--- a setting, read off its row
-module _ (rows : List ℕ) (i : ℕ) where
-  abbrev earlier : List Setting
-  earlier = tab i (pair_at 0 rows)
-
-  abbrev Told : Bool → Type 0
-  Told r = r ≡ setting.good earlier (pair_at 0 rows i)
-
-  pub no-sf : is_sf (get_or rows (2 * i) 0) ≡ false → Told false
-  unfolding setting pair_at
-  no-sf e = let z : 0 + 2 * i ≡ 2 * i = omega arith in rw (z, e)
-
-  module _ (sf : is_sf (get_or rows (2 * i) 0) ≡ true) where
-    pub no_flag : is_flag (get_or rows (2 * i + 1) 0) ≡ false → Told false
-    unfolding setting pair_at
-    no_flag e = let z : 0 + 2 * i ≡ 2 * i = omega arith in rw (z, sf, e)
-
-    pub is-new : is_flag (get_or rows (2 * i + 1) 0) ≡ true → (again : Bool) → again ≡ given (get_or rows (2 * i) 0) (get_or rows (2 * i + 1) 0) earlier → Told (not again)
-    unfolding setting pair_at
-    is-new e again g = let z : 0 + 2 * i ≡ 2 * i = omega arith in rw (g, z, sf, e)
-
--- a frame's row
-module _ (n : ℕ) (rows : List ℕ) (i : ℕ) where
-  pub no_index : within 0 n (get_or rows (5 * i) 0) ≡ false → false ≡ row_good n rows i
-  unfolding row_good
-  no_index e = rw e
-
-  module _ (index : within 0 n (get_or rows (5 * i) 0) ≡ true) where
-    pub no-cr : is_cr (get_or rows (5 * i + 1) 0) ≡ false → false ≡ row_good n rows i
-    unfolding row_good
-    no-cr e = rw (index, e)
-
-    module _ (cr : is_cr (get_or rows (5 * i + 1) 0) ≡ true) where
-      pub no-crc-flag : is_flag (get_or rows (5 * i + 2) 0) ≡ false → false ≡ row_good n rows i
-      unfolding row_good
-      no-crc-flag e = rw (index, cr, e)
-
-      pub is_row : is_flag (get_or rows (5 * i + 2) 0) ≡ true → is_byte (get_or rows (5 * i + 4) 0) ≡ row_good n rows i
-      unfolding row_good
-      is_row e = rw (index, cr, e)
-
-pub rows_none : (n : ℕ) (rows : List ℕ) → true ≡ rows_good n rows 0
+-- a frame's row after the other
+pub all-rows : (n : ℕ) (rows : List ℕ) (m : ℕ) → list_all (row_good n rows) (range_with_len 0 m) ≡ rows_good n rows m
 unfolding rows_good
-rows_none n rows = refl
-
-pub rows_next : (n : ℕ) (rows : List ℕ) (i : ℕ) (fine here r : Bool) → fine ≡ rows_good n rows i → here ≡ row_good n rows i → r ≡ fine && here → r ≡ rows_good n rows (i + 1)
-unfolding rows_good
-rows_next n rows i fine here r p q e = rw (e, p, q, add-one i)
+all-rows n rows zero = refl
+all-rows n rows (suc m) = all-more (row_good n rows) m ∙ rw (all-rows n rows m) refl
 
 -- bytes are good bytes, and so is every part of them
 bytes_good : (before l : List ℕ) → Bytes l → good_each any_byte.good before l ≡ true
@@ -157,16 +114,6 @@ module _ (n : ℕ) (rows payloads : List ℕ) (low : (i : ℕ) → get_or rows i
   rows-frames (suc m) h =
       rw (rows-frames m (omega arith), row-frame (tab m (frame_row rows payloads)) m h)
       (sym (each_more (frame n).good [] (tab m (frame_row rows payloads)) (frame_row rows payloads m)))
-
--- a refused frame's row
-module _ (n : ℕ) (rows : List ℕ) (i : ℕ) where
-  pub refused-no-index : within 0 n (get_or rows (3 * i) 0) ≡ false → false ≡ (refused_frame n).good [] (refused_row rows i)
-  unfolding refused_frame refused_row
-  refused-no-index e = rw e
-
-  pub is-refused : within 0 n (get_or rows (3 * i) 0) ≡ true → get_or rows (3 * i + 2) 0 < 65536 → is_number (get_or rows (3 * i + 1) 0) ≡ (refused_frame n).good [] (refused_row rows i)
-  unfolding refused_frame refused_row
-  is-refused e h = rw (e, le-leb (get_or rows (3 * i + 2) 0) 65535 (omega arith), and-true)
 
 -- it is judged alone
 pub refused-alone : (n : ℕ) (before : List RefusedFrame) (r : RefusedFrame) → (refused_frame n).good [] r ≡ (refused_frame n).good before r

@@ -1,13 +1,14 @@
 -- Laws of what is written: the bytes of each row, how long the parts are, and the file in its parts.
 -- Assumes nothing.
-use mathlib.Core.Path.{◌≡◌, refl, ap, ◌∙◌}
+use mathlib.Core.Path.{◌≡◌, refl, sym, ap, ◌∙◌}
 use mathlib.Core.Bool.{false}
-use mathlib.Core.List.{List, [], ◌∷◌, ◌++◌}
+use mathlib.Core.List.{List, [], ◌∷◌, ◌++◌, append_assoc}
 use Prim.Native.Nat.{ℕ, zero, suc, ◌+◌, ◌*◌, ◌/◌, ◌<◌, ◌≤◌}
 use native.Mathlib.Nat.{zero-add}
 use native.Mathlib.Numerals.{add-one}
 use native.Mathlib.Omega.{arith}
-use lib.ListN.{length, get_or, length-append}
+use lib.ListN.{length, get_or, take, length-append}
+use lib.Seq.{take-suc, length-take-le}
 use Rattle.bits.specs.Tab.{tab}
 use Rattle.bits.proofs.Tabs.{length-tab}
 use Rattle.day.specs.Script.{Form, put_each}
@@ -15,7 +16,7 @@ use Rattle.day.specs.Day.{kind1, low_first, put_count, setting, any_byte, frame,
 use Rattle.day.specs.Stages.{pair_at}
 use Rattle.day_write.specs.Write.{lengths_before, frame_row, refused_row, entries_of}
 use Rattle.day_write.specs.Parts.{settings_part, frames_part, refused_part}
-use Rattle.day_write.proofs.EachLaws.{put_each-none, put_each-more-length, put_each-room}
+use Rattle.day_write.proofs.EachLaws.{put_each-none, put_each-more, put_each-more-length, put_each-room}
 use Rattle.day_write.proofs.RowLaws.{payload, payload-long, lengths_none, lengths-more, Fit}
 
 -- a payload is written as it is
@@ -41,12 +42,9 @@ section-room form n i f h = omega (arith, section-length form n f, put_each-room
 
 -- the setting of row i
 module _ (ss : List ℕ) (i : ℕ) where
-  pub setting-put : setting.put (pair_at 0 ss i) ≡ get_or ss (2 * i) 0 ∷ get_or ss (2 * i + 1) 0 ∷ []
+  setting-put : setting.put (pair_at 0 ss i) ≡ get_or ss (2 * i) 0 ∷ get_or ss (2 * i + 1) 0 ∷ []
   unfolding setting pair_at
   setting-put = rw (zero-add (2 * i))
-
-  pub setting-length : length (setting.put (pair_at 0 ss i)) ≡ 2
-  setting-length = ap length setting-put
 
 -- the frame of row i
 module _ (fs ps : List ℕ) (i : ℕ) where
@@ -70,10 +68,25 @@ module _ (rs : List ℕ) (i : ℕ) where
   refused-length = ap length refused-put
 
 -- the lengths of the parts
-settings-length : (ss : List ℕ) (k : ℕ) → length (put_each setting.put (tab k (pair_at 0 ss))) ≡ 2 * k
-settings-length ss zero = rw (← put_each-none setting.put (pair_at 0 ss))
-settings-length ss (suc k) =
-    omega (arith, rw add-one at (put_each-more-length setting.put k (pair_at 0 ss)), settings-length ss k, setting-length ss k)
+settings-bytes : (ss : List ℕ) (k : ℕ) → 2 * k ≤ length ss → put_each setting.put (tab k (pair_at 0 ss)) ≡ take (2 * k) ss
+settings-bytes ss zero h = sym (put_each-none setting.put (pair_at 0 ss))
+settings-bytes ss (suc k) h =
+    let two : 2 * suc k ≡ suc (suc (2 * k)) = omega arith in
+    let next : 2 * k + 1 ≡ suc (2 * k) = omega arith in
+    rw add-one at (sym (put_each-more setting.put k (pair_at 0 ss))) ∙ rw (settings-bytes ss k (omega arith), setting-put ss k, two, take-suc ss (suc (2 * k)) 0 (omega arith), take-suc ss (2 * k) 0 (omega arith), next)
+    (sym (append_assoc (take (2 * k) ss) (get_or ss (2 * k) 0 ∷ []) (get_or ss (suc (2 * k)) 0 ∷ [])))
+
+settings-length : (ss : List ℕ) (k : ℕ) → 2 * k ≤ length ss → length (put_each setting.put (tab k (pair_at 0 ss))) ≡ 2 * k
+settings-length ss k h = ap length (settings-bytes ss k h) ∙ length-take-le _ _ h
+
+-- the settings' section is their count and their rows
+pub settings-section : (ss : List ℕ) → settings_part ss ≡ put_count false (length ss / 2) ++ take (2 * (length ss / 2)) ss
+unfolding settings_part
+settings-section ss = section-is setting (length ss / 2) (pair_at 0 ss) ∙ ap (put_count false (length ss / 2) ++◌) (settings-bytes ss (length ss / 2) (omega arith))
+
+pub settings-room : (ss : List ℕ) → length (settings_part ss) ≡ 1 + length (take (2 * (length ss / 2)) ss)
+unfolding put_count
+settings-room ss = ap length (settings-section ss) ∙ omega arith
 
 frames-length : (fs ps : List ℕ) (k : ℕ) → lengths_before fs k ≤ length ps → length (put_each (frame 255).put (tab k (frame_row fs ps))) ≡ 6 * k + lengths_before fs k
 frames-length fs ps zero h = rw (← put_each-none (frame 255).put (frame_row fs ps)) (omega (arith, lengths_none fs))
@@ -109,7 +122,7 @@ module _ (ss fs ps rs : List ℕ) where
     section-length setting (length ss / 2) (pair_at 0 ss),
     section-length (frame 255) (length fs / 5) (frame_row fs ps),
     section-length (refused_frame 255) (length rs / 3) (refused_row rs),
-    settings-length ss (length ss / 2),
+    settings-length ss (length ss / 2) (omega arith),
     frames-length fs ps (length fs / 5) (omega (arith, f.frames.whole)),
     refuseds-length rs (length rs / 3),
     f.pairs,

@@ -1,12 +1,12 @@
 -- The writer: entries read off the lent lists of numbers, and what it answers.
 -- Assumes nothing.
-use Rattle.std.specs.Prelude.{Bool, ◌&&◌, List, ◌≡◌, ℕ, zero, suc, ◌+◌, ◌*◌, ◌/◌, ◌%◌, leb, eqb, length, get_or, take, drop}
+use Rattle.std.specs.Prelude.{Bool, ◌&&◌, List, ◌≡◌, ℕ, zero, suc, ◌+◌, ◌*◌, ◌/◌, ◌%◌, leb, eqb, length, get_or, take, drop, Result, Ok, Err}
+use Rattle.refusal.specs.Refusal.{refuse}
+use Rattle.refusal.specs.declared.Refusal.{Refusal}
 use Rattle.bits.specs.Check.{check}
 use Rattle.bits.specs.Tab.{tab, placed}
 use Rattle.day.specs.Day.{Frame, RefusedFrame, Day, Kind, good_day, file_of}
 use Rattle.day.specs.Stages.{pair_at}
-use Rattle.day_write.specs.declared.Written.{Written}
-use Rattle.day_write.specs.declared.Written.TheVariants.{Length, Refused}
 
 -- a frame in five numbers: settings index, CR, flag, repairs, length; so long are the payloads of those before frame i
 unfoldable pub lengths_before : List ℕ → ℕ → ℕ
@@ -41,18 +41,18 @@ whole_rows settings frames payloads refused =
     && eqb (lengths_before frames (length frames / 5)) (length payloads)))
 
 -- 16 with place 0 for entries that no file has; after that 4 when it lacks room
-unfoldable pub write_of : Kind → List ℕ → List ℕ → List ℕ → List ℕ → ℕ → Written
+unfoldable pub write_of : Kind → List ℕ → List ℕ → List ℕ → List ℕ → ℕ → Result ℕ Refusal
 write_of k ss fs ps rs room =
     let file : List ℕ = file_of k (entries_of ss fs ps rs) in
-    check (whole_rows ss fs ps rs && good_day k (entries_of ss fs ps rs)) (Refused 16 0)
-    (check (leb (length file) room) (Refused 4 (length file))
-    (Length (length file)))
+    check (whole_rows ss fs ps rs && good_day k (entries_of ss fs ps rs)) (refuse 16 0)
+    (check (leb (length file) room) (refuse 4 (length file))
+    (Ok (length file)))
 
 -- a refusal leaves the lent bytes as they were, an acceptance has the file at their front
-abbrev pub file_after : Written → List ℕ → List ℕ → List ℕ
-file_after (Length n) file old = placed 0 file old
-file_after (Refused number place) file old = old
+abbrev pub file_after : Result ℕ Refusal → List ℕ → List ℕ → List ℕ
+file_after (Ok n) file old = placed 0 file old
+file_after (Err e) file old = old
 
-pub record Writing (k : Kind) (ss fs ps rs old new : List ℕ) (r : Written) : Type 0 where
+pub record Writing (k : Kind) (ss fs ps rs old new : List ℕ) (r : Result ℕ Refusal) : Type 0 where
   pub answer : r ≡ write_of k ss fs ps rs (length old)
   pub cells : new ≡ file_after r (file_of k (entries_of ss fs ps rs)) old

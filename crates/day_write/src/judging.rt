@@ -2,67 +2,52 @@
 ghost use Rattle.std.specs.Prelude.{◌≡◌, ◌&&◌, [], ◌+◌, ◌*◌, ◌/◌, ◌≤◌, ◌<◌, length, get_or};
 ghost use Rattle.bits.specs.Tab.{tab};
 ghost use Rattle.day.specs.Script.{good_each};
-ghost use Rattle.day.specs.Day.{kind1, good_day, setting, refused_frame, is_number, within as is_within};
+ghost use Rattle.day.specs.Day.{kind1, good_day, setting, refused_frame, within as is_within};
 ghost use Rattle.day.specs.Stages.{pair_at};
 ghost use Rattle.day_write.specs.Judging.{few_rows, row_good, rows_good};
 ghost use Rattle.day_write.specs.Write.{entries_of, whole_rows, lengths_before, refused_row};
 
-use bits::{wide, wide16};
+use crate::Rows;
 use day::{is_given, within};
 
-fn and(a: bool, b: bool) -> bool
-    ensures { result ≡ a && b }
-{
-    if a { b } else { false }
-}
-
 // Whether so many numbers are whole rows, no more than a section has.
+#[tactic(auto, unfolding(crate::specs::Judging::few_rows))]
 fn few_rows(numbers: usize, row: usize) -> bool
     requires { 0 < row }
     ensures { result ≡ few_rows numbers row }
 {
-    if numbers % row == 0 {
-        numbers / row <= 255
-    } else {
-        false
-    }
+    numbers % row == 0 && numbers / row <= 255
 }
 
-// The lengths of all frames together: few enough that the sum fits.
+// The lengths of all frames together: few enough that the sum fits. By the rows' numbers, as `lengths_before` adds them: the bound
+// of a `sum` over chunks would have to be asked of the caller.
 fn lengths(frames: &[u16]) -> usize
     requires { length frames.now / 5 ≤ 255 }
     ensures { result ≡ lengths_before frames.now (length frames.now / 5) }
 {
     let mut sum = 0usize;
     for i in 0..frames.len() / 5 {
-        sum = sum + wide16(frames[5 * i + 4]);
+        sum = sum + usize::from(frames[5 * i + 4]);
     }
     sum
 }
 
+#[tactic(auto, unfolding(day::specs::Day::setting, day::specs::Stages::pair_at))]
 fn setting_good(settings: &[u8], i: usize) -> bool
     requires { 2 * i + 2 ≤ length settings.now }
     ensures { result ≡ setting.good (tab i (pair_at 0 settings.now)) (pair_at 0 settings.now i) }
 {
     let sf = settings[2 * i];
     let low = settings[2 * i + 1];
-    if !within(wide(sf), 7, 13) {
-        return false;
-    }
-    if !within(wide(low), 0, 2) {
-        return false;
-    }
-    !is_given(settings, 0, i, sf, low)
+    within(usize::from(sf), 7, 13)
+        && within(usize::from(low), 0, 2)
+        && !is_given(settings, 0, i, sf, low)
 }
 
 fn settings_good(settings: &[u8]) -> bool
     ensures { result ≡ good_each setting.good [] (tab (length settings.now / 2) (pair_at 0 settings.now)) }
 {
-    let mut fine = true;
-    for i in 0..settings.len() / 2 {
-        fine = and(fine, setting_good(settings, i));
-    }
-    fine
+    (0..settings.len() / 2).all(|i| setting_good(settings, i))
 }
 
 // Whether the number at a place of the rows is low or more, and below end.
@@ -70,69 +55,53 @@ fn in_range(rows: &[u16], at: usize, low: usize, end: usize) -> bool
     requires { at < length rows.now }
     ensures { result ≡ is_within low end (get_or rows.now at 0) }
 {
-    within(wide16(rows[at]), low, end)
+    within(usize::from(rows[at]), low, end)
 }
 
 // A frame's row, its payload left out.
+#[tactic(auto, unfolding(crate::specs::Judging::row_good))]
 fn frame_good(frames: &[u16], settings: usize, i: usize) -> bool
     requires { 5 * i + 5 ≤ length frames.now }
     ensures { result ≡ row_good settings frames.now i }
 {
     let at = 5 * i;
-    if !in_range(frames, at, 0, settings) {
-        return false;
-    }
-    if !in_range(frames, at + 1, 1, 5) {
-        return false;
-    }
-    if !in_range(frames, at + 2, 0, 2) {
-        return false;
-    }
-    in_range(frames, at + 4, 0, 256)
+    in_range(frames, at, 0, settings)
+        && in_range(frames, at + 1, 1, 5)
+        && in_range(frames, at + 2, 0, 2)
+        && in_range(frames, at + 4, 0, 256)
 }
 
 fn frames_good(frames: &[u16], settings: usize) -> bool
     ensures { result ≡ rows_good settings frames.now (length frames.now / 5) }
 {
-    let mut fine = true;
-    for i in 0..frames.len() / 5 {
-        fine = and(fine, frame_good(frames, settings, i));
-    }
-    fine
+    (0..frames.len() / 5).all(|i| frame_good(frames, settings, i))
 }
 
-// Whether frames are refused with this number.
-fn is_number(n: u16) -> bool
-    ensures { result ≡ is_number n }
-{
-    day::is_number(wide16(n))
-}
-
+#[tactic(auto, unfolding(day::specs::Day::refused_frame, crate::specs::Write::refused_row))]
 fn refused_frame_good(refused: &[u16], settings: usize, i: usize) -> bool
     requires { 3 * i + 3 ≤ length refused.now }
     ensures { result ≡ (refused_frame settings).good [] (refused_row refused.now i) }
 {
     let at = 3 * i;
-    if !in_range(refused, at, 0, settings) {
-        return false;
-    }
-    is_number(refused[at + 1])
+    in_range(refused, at, 0, settings) && day::is_number(usize::from(refused[at + 1]))
 }
 
 fn refused_good(refused: &[u16], settings: usize) -> bool
     ensures { result ≡ good_each (refused_frame settings).good [] (tab (length refused.now / 3) (refused_row refused.now)) }
 {
-    let mut fine = true;
-    for i in 0..refused.len() / 3 {
-        fine = and(fine, refused_frame_good(refused, settings, i));
-    }
-    fine
+    (0..refused.len() / 3).all(|i| refused_frame_good(refused, settings, i))
 }
 
 // The rows are counted before the lengths are added.
-pub fn good(settings: &[u8], frames: &[u16], payloads: &[u8], refused: &[u16]) -> bool
-    ensures { result ≡ whole_rows settings.now frames.now payloads.now refused.now && good_day kind1 (entries_of settings.now frames.now payloads.now refused.now) }
+pub fn good<'a>(rows: Rows<'a>) -> bool
+    ensures { result ≡ whole_rows rows.entry.settings.now rows.entry.frames.now rows.entry.payloads.now rows.entry.refused.now && good_day kind1 (entries_of rows.entry.settings.now rows.entry.frames.now rows.entry.payloads.now rows.entry.refused.now) }
 {
+    let Rows {
+        settings,
+        frames,
+        payloads,
+        refused,
+    } = rows;
     if !few_rows(settings.len(), 2) {
         return false;
     }

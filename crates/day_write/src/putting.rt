@@ -1,27 +1,22 @@
 // The file, put into a lent buffer byte by byte.
 ghost use Rattle.std.specs.Prelude.{◌≡◌, true, false, [], ◌∷◌, ◌+◌, ◌*◌, ◌/◌, ◌<◌, ◌≤◌, length, get_or};
-ghost use Rattle.day.specs.Day.{kind1, low_first, put_count, setting, frame, refused_frame, good_day, file_of};
-ghost use Rattle.day.specs.Stages.{pair_at};
+ghost use Rattle.day.specs.Day.{kind1, low_first, put_count, frame, refused_frame, good_day, file_of};
 ghost use Rattle.put.specs.Put.{Put};
 ghost use Rattle.day_write.specs.Write.{lengths_before, frame_row, refused_row, entries_of, whole_rows};
 ghost use Rattle.day_write.specs.Parts.{settings_part, frames_part, refused_part, FramesFit, RefusedFit, FrameFits, RefusedFits};
 
-use bits::wide16;
-use put::put;
+use crate::Rows;
+use put::{put, put_words};
 
 // The length of the file of rows that it can hold.
-pub fn file_length(settings: &[u8], frames: &[u16], payloads: &[u8], refused: &[u16]) -> usize
-    requires { (whole_rows settings.now frames.now payloads.now refused.now ≡ true) × (good_day kind1 (entries_of settings.now frames.now payloads.now refused.now) ≡ true) }
-    ensures { result ≡ length (file_of kind1 (entries_of settings.now frames.now payloads.now refused.now)) }
+pub fn file_length<'a>(rows: Rows<'a>) -> usize
+    requires { (whole_rows rows.settings.now rows.frames.now rows.payloads.now rows.refused.now ≡ true) × (good_day kind1 (entries_of rows.settings.now rows.frames.now rows.payloads.now rows.refused.now) ≡ true) }
+    ensures { result ≡ length (file_of kind1 (entries_of rows.entry.settings.now rows.entry.frames.now rows.entry.payloads.now rows.entry.refused.now)) }
 {
-    4 + settings.len() + 6 * (frames.len() / 5) + payloads.len() + 4 * (refused.len() / 3)
-}
-
-fn low_byte(n: u16) -> u8
-    requires { n < 256 }
-    ensures { result ≡ n }
-{
-    n as u8
+    4 + rows.settings.len()
+        + 6 * (rows.frames.len() / 5)
+        + rows.payloads.len()
+        + 4 * (rows.refused.len() / 3)
 }
 
 fn put_count(out: &mut [u8], at: usize, n: usize) -> usize
@@ -32,12 +27,12 @@ fn put_count(out: &mut [u8], at: usize, n: usize) -> usize
 }
 
 // Two bytes, the low one first.
+#[tactic(auto, unfolding(day::specs::Day::low_first))]
 fn put_two(out: &mut [u8], at: usize, n: u16) -> usize
     requires { at + 2 ≤ length out.old }
     ensures { Put at (low_first n) out.old out.new result }
 {
-    let next = put(out, at, low_byte(n % 256));
-    put(out, next, low_byte(n / 256))
+    put_words(out, at, &n.to_le_bytes())
 }
 
 // A number that fits in one byte.
@@ -45,7 +40,7 @@ fn put_cell(out: &mut [u8], at: usize, cells: &[u16], j: usize) -> usize
     requires { (j < length cells.now) × (get_or cells.now j 0 < 256) × (at < length out.old) }
     ensures { Put at (get_or cells.now j 0 ∷ []) out.old out.new result }
 {
-    put(out, at, low_byte(cells[j]))
+    put(out, at, cells[j] as u8)
 }
 
 // Three such numbers, side by side.
@@ -53,40 +48,18 @@ fn put_three(out: &mut [u8], at: usize, cells: &[u16], j: usize) -> usize
     requires { (j + 2 < length cells.now) × (get_or cells.now j 0 < 256) × (get_or cells.now (j + 1) 0 < 256) × (get_or cells.now (j + 2) 0 < 256) × (at + 3 ≤ length out.old) }
     ensures { Put at (get_or cells.now j 0 ∷ get_or cells.now (j + 1) 0 ∷ get_or cells.now (j + 2) 0 ∷ []) out.old out.new result }
 {
-    let after_first = put_cell(out, at, cells, j);
-    let after_second = put_cell(out, after_first, cells, j + 1);
-    put_cell(out, after_second, cells, j + 2)
+    let bytes = [cells[j] as u8, cells[j + 1] as u8, cells[j + 2] as u8];
+    put_words(out, at, &bytes)
 }
 
-fn put_bytes(out: &mut [u8], at: usize, payload: &[u8]) -> usize
-    requires { at + length payload.now ≤ length out.old }
-    ensures { Put at payload.now out.old out.new result }
-{
-    let mut next = at;
-    for i in 0..payload.len() {
-        next = put(out, next, payload[i]);
-    }
-    next
-}
-
-fn put_setting(out: &mut [u8], at: usize, settings: &[u8], i: usize) -> usize
-    requires { (2 * i + 1 < length settings.now) × (at + length (setting.put (pair_at 0 settings.now i)) ≤ length out.old) }
-    ensures { Put at (setting.put (pair_at 0 settings.now i)) out.old out.new result }
-{
-    let next = put(out, at, settings[2 * i]);
-    put(out, next, settings[2 * i + 1])
-}
-
+// The settings' rows are their bytes.
 fn put_settings(out: &mut [u8], at: usize, settings: &[u8]) -> usize
     requires { (length settings.now / 2 ≤ 255) × (at + length (settings_part settings.now) ≤ length out.old) }
     ensures { Put at (settings_part settings.now) out.old out.new result }
 {
     let count = settings.len() / 2;
-    let mut next = put_count(out, at, count);
-    for i in 0..count {
-        next = put_setting(out, next, settings, i);
-    }
-    next
+    let next = put_count(out, at, count);
+    put_words(out, next, &settings[..2 * count])
 }
 
 // The length of frame i's payload.
@@ -94,7 +67,7 @@ fn payload_length(frames: &[u16], i: usize) -> usize
     requires { 5 * i + 4 < length frames.now }
     ensures { result ≡ get_or frames.now (5 * i + 4) 0 }
 {
-    wide16(frames[5 * i + 4])
+    usize::from(frames[5 * i + 4])
 }
 
 // Frame i, whose payload starts there.
@@ -114,9 +87,11 @@ fn put_frame(
     let after_flag = put_three(out, at, frames, row);
     let after_repairs = put_two(out, after_flag, frames[row + 3]);
     let after_length = put_cell(out, after_repairs, frames, row + 4);
-    put_bytes(out, after_length, &payloads[start..end])
+    put_words(out, after_length, &payloads[start..end])
 }
 
+// Row by row with its number, by which `frame_row` says what the row is and where its payload starts: a loop over chunks of five
+// would count the rows beside it all the same.
 fn put_frames(out: &mut [u8], at: usize, frames: &[u16], payloads: &[u8]) -> usize
     requires { FramesFit frames.now payloads.now × (at + length (frames_part frames.now payloads.now) ≤ length out.old) }
     ensures { Put at (frames_part frames.now payloads.now) out.old out.new result }
@@ -126,7 +101,7 @@ fn put_frames(out: &mut [u8], at: usize, frames: &[u16], payloads: &[u8]) -> usi
     let mut start = 0;
     for i in 0..count {
         next = put_frame(out, next, frames, i, payloads, start);
-        start = start + payload_length(frames, i);
+        start += payload_length(frames, i);
     }
     next
 }
@@ -141,6 +116,7 @@ fn put_refused_frame(out: &mut [u8], at: usize, refused: &[u16], i: usize) -> us
     put_two(out, after_number, refused[row + 2])
 }
 
+// By the row's number too, as `refused_row` reads it.
 fn put_refused(out: &mut [u8], at: usize, refused: &[u16]) -> usize
     requires { RefusedFit refused.now × (at + length (refused_part refused.now) ≤ length out.old) }
     ensures { Put at (refused_part refused.now) out.old out.new result }
@@ -154,18 +130,12 @@ fn put_refused(out: &mut [u8], at: usize, refused: &[u16]) -> usize
 }
 
 // Writes the file into the lent buffer and answers the place behind it.
-pub fn put_file(
-    settings: &[u8],
-    frames: &[u16],
-    payloads: &[u8],
-    refused: &[u16],
-    out: &mut [u8],
-) -> usize
-    requires { (whole_rows settings.now frames.now payloads.now refused.now ≡ true) × (good_day kind1 (entries_of settings.now frames.now payloads.now refused.now) ≡ true) × (length (file_of kind1 (entries_of settings.now frames.now payloads.now refused.now)) ≤ length out.old) }
-    ensures { Put 0 (file_of kind1 (entries_of settings.now frames.now payloads.now refused.now)) out.old out.new result }
+pub fn put_file<'a>(rows: Rows<'a>, out: &mut [u8]) -> usize
+    requires { (whole_rows rows.settings.now rows.frames.now rows.payloads.now rows.refused.now ≡ true) × (good_day kind1 (entries_of rows.settings.now rows.frames.now rows.payloads.now rows.refused.now) ≡ true) × (length (file_of kind1 (entries_of rows.settings.now rows.frames.now rows.payloads.now rows.refused.now)) ≤ length out.old) }
+    ensures { Put 0 (file_of kind1 (entries_of rows.entry.settings.now rows.entry.frames.now rows.entry.payloads.now rows.entry.refused.now)) out.old out.new result }
 {
     let after_mark = put(out, 0, 1);
-    let after_settings = put_settings(out, after_mark, settings);
-    let after_frames = put_frames(out, after_settings, frames, payloads);
-    put_refused(out, after_frames, refused)
+    let after_settings = put_settings(out, after_mark, rows.settings);
+    let after_frames = put_frames(out, after_settings, rows.frames, rows.payloads);
+    put_refused(out, after_frames, rows.refused)
 }

@@ -12,11 +12,12 @@ fn difference(a: u16, b: u16) -> i8
     (a as i16 - b as i16) as i8
 }
 
+#[tactic(auto, unfolding(crate::specs::Drift::mark_of))]
 fn mark_of_number(sf: u8, s: u16) -> u16
     requires { (7 ≤ sf) × (sf ≤ 12) }
     ensures { result ≡ mark_of sf s }
 {
-    let n = bits::wide(sf) - 2;
+    let n = usize::from(sf) - 2;
     block::number_of_value(true, block::value_of_number(n, true, s))
 }
 
@@ -27,7 +28,7 @@ pub fn drift_of_number(sf: u8, s: u16) -> i8
 {
     let mark = mark_of_number(sf, s);
     if s > mark + 1 {
-        let round = bits::power(bits::wide(sf));
+        let round = bits::power(usize::from(sf));
         return difference(s, mark + round);
     }
     difference(s, mark)

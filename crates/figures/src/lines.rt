@@ -1,7 +1,6 @@
 // Our numbers, line by line.
 ghost use Rattle.std.specs.Prelude.{◌<◌};
 
-use crate::rules::Rule;
 use crate::{ours, rules};
 
 // The word that symbol k of the header's block carries at SF 11, or its value: three hexadecimal digits with the lowest first,
@@ -14,7 +13,7 @@ fn mapped(k: usize, value: bool) -> usize {
     } else {
         word
     };
-    bits::wide16(x % 16 * 256 + x / 16 % 16 * 16 + x / 256)
+    usize::from(x % 16 * 256 + x / 16 % 16 * 16 + x / 256)
 }
 
 // The word that symbol k of the second block carries at SF 8, turned down by so many places: 257 times the word is the word
@@ -24,7 +23,7 @@ fn later(k: usize, places: u16) -> usize
 {
     let symbol = (ours::coded(8, false, 1, 2, 10 + k % 5) % 65536) as u16;
     let word = block::word_of_number(8, false, symbol);
-    bits::wide16((word % 256 * 257) >> places) % 256
+    usize::from((word % 256 * 257) >> places) % 256
 }
 
 // Number k on a line of the text in main. The first is line 0: 01's examples, 001's slides from line 6 on, rules from line 15 on.
@@ -48,12 +47,12 @@ pub fn ours(line: usize, k: usize) -> usize {
         12 => mapped(k, true),
         13 => mapped(k, false),
         14 => mapped(7, false),
-        15 => rules::compared(Rule::Formula, 24576, first),
-        16 => rules::compared(Rule::FormulaAsPrinted, 24576, first),
-        17 => rules::compared(Rule::FormulaWithoutHeader, 24576, first),
-        18 => rules::compared(Rule::Register, 255, first),
-        19 => rules::compared(Rule::Generators, 64, first),
-        20 => rules::compared(Rule::Checks, 2048, first),
+        15 => rules::compared(|i| rules::is_by_formula(i, true, false), 24576, first),
+        16 => rules::compared(|i| rules::is_by_formula(i, true, true), 24576, first),
+        17 => rules::compared(|i| rules::is_by_formula(i, false, false), 24576, first),
+        18 => rules::compared(rules::is_by_register, 255, first),
+        19 => rules::compared(rules::is_by_generators, 64, first),
+        20 => rules::compared(rules::is_by_checks, 2048, first),
         _ => ours::checks(k),
     }
 }

@@ -57,13 +57,11 @@ const ROWS: [usize; 40] = [
 pub fn product(number: usize, first: usize) -> usize
     requires { first ≤ 28 }
 {
-    let mut sum: usize = 0;
-    let mut rest = number;
-    for i in 0..12usize {
-        if rest % 2 == 1 {
-            sum = sum ^ ROWS[first + i];
+    let mut sum = 0;
+    for (i, row) in ROWS[first..first + 12].iter().enumerate() {
+        if number >> i & 1 == 1 {
+            sum ^= row;
         }
-        rest = rest / 2;
     }
     sum
 }

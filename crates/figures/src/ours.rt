@@ -1,13 +1,15 @@
 // What the crates below answer.
 ghost use Rattle.std.specs.Prelude.{◌≤◌};
 
-use lora::{Counted, Kind, Lasting, Settings};
+use lora::{Kind, Settings};
+use refusal::Refusal;
 
 // A refusal's number, then its place; the number of symbols where there is none.
-pub fn answer(c: Counted, k: usize) -> usize {
-    match c {
-        Counted::Symbols { count } => count,
-        Counted::Refused { number, place } => if k == 0 { bits::wide(number) } else { place },
+pub fn answer(counted: Result<usize, Refusal>, k: usize) -> usize {
+    match counted {
+        Ok(count) => count,
+        Err(e) if k == 0 => usize::from(e.number),
+        Err(e) => e.place,
     }
 }
 
@@ -22,17 +24,9 @@ pub fn airtime(first: bool) -> usize {
             checked: true,
         },
     };
-    let lasting = lora::airtime(settings, 2, 125, 8);
-    match lasting {
-        Lasting::Microseconds { time } => {
-            let part = if first { time / 1000 } else { time % 1000 };
-            part as usize
-        }
-        Lasting::Refused {
-            number: _,
-            place: _,
-        } => 0,
-    }
+    let time = lora::airtime(settings, 2, 125, 8).unwrap_or(0);
+    let part = if first { time / 1000 } else { time % 1000 };
+    part as usize
 }
 
 // What code makes of a payload of zeros, with a checksum: the two numbers of its answer and then the symbols, of which this is
@@ -51,7 +45,7 @@ pub fn coded(sf: u8, low: bool, cr: u8, length: usize, k: usize) -> usize
     if k < 2 {
         answer(counted, k)
     } else {
-        bits::wide16(cells[(k - 2) % 831])
+        usize::from(cells[(k - 2) % 831])
     }
 }
 
@@ -59,18 +53,18 @@ pub fn coded(sf: u8, low: bool, cr: u8, length: usize, k: usize) -> usize
 pub fn whitening(k: usize) -> usize {
     let mut bytes = [0u8; 255];
     whitening::whiten(&mut bytes, 255);
-    bits::wide(bytes[k % 255])
+    usize::from(bytes[k % 255])
 }
 
 // The codeword that we send for nibble i % 16 at CR 1 + i / 16, out of a grid whose rows are all its own.
 pub fn codeword(i: usize) -> usize {
     let rows = codeword::rows();
     let grid = [rows[i % 64]; 12];
-    bits::wide(block::codeword_of_grid(8, &grid, 0))
+    usize::from(block::codeword_of_grid(8, &grid, 0))
 }
 
 // The check bits, which are the last two nibbles, of header number i, of the 2,048 in the order of CR, then flag, then length.
 pub fn checks(i: usize) -> usize {
     let h = header::header_nibbles(i % 256, (1 + i / 512 % 4) as u8, i / 256 % 2 == 1);
-    bits::wide(h[3] % 16 * 16 + h[4] % 16)
+    usize::from(h[3] % 16 * 16 + h[4] % 16)
 }

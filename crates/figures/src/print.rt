@@ -31,7 +31,7 @@ fn verdict(rt: &impl Print, same: bool) {
 
 // A number with one more digit, 0 to 9 or a to f.
 fn longer(number: usize, hex: bool, c: u8) -> usize {
-    let digit = bits::wide(c % 16 + c / 64 * 9);
+    let digit = usize::from(c % 16 + c / 64 * 9);
     if hex {
         number % 65536 * 16 + digit
     } else {
@@ -83,7 +83,7 @@ pub fn figures(rt: &impl Print, text: &[u8]) {
         number: 0,
         same: true,
     };
-    for i in 0..text.len() {
-        place = step(rt, place, text[i]);
+    for c in text {
+        place = step(rt, place, *c);
     }
 }

@@ -1,18 +1,6 @@
 // Rules of the documents against ours, case by case.
-ghost use Rattle.std.specs.Prelude.{◌≤◌};
-
 use crate::{matrices, ours};
 use lora::{Kind, Settings};
-
-#[derive(Clone, Copy)]
-pub enum Rule {
-    Formula,
-    FormulaAsPrinted,
-    FormulaWithoutHeader,
-    Register,
-    Generators,
-    Checks,
-}
 
 // What we count for number i of the 24,576 settings, in the order of SF, low rate, CR, flag, length.
 fn symbols(i: usize, header: bool) -> usize {
@@ -51,7 +39,7 @@ fn blocks(i: usize, header: bool) -> usize {
 }
 
 // Whether the symbols behind the first eight are the blocks times CR + 4 or, as printed, times 4 / (CR + 4), rounded down.
-fn is_by_formula(i: usize, header: bool, printed: bool) -> bool {
+pub fn is_by_formula(i: usize, header: bool, printed: bool) -> bool {
     let symbols = symbols(i, header);
     let blocks = blocks(i, header);
     if symbols < 8 {
@@ -67,7 +55,7 @@ fn is_by_formula(i: usize, header: bool, printed: bool) -> bool {
 }
 
 // Whether whitening byte i is the register's state after the byte before it, or first FF.
-fn is_by_register(i: usize) -> bool {
+pub fn is_by_register(i: usize) -> bool {
     if i == 0 {
         ours::whitening(0) == 0xFF
     } else {
@@ -75,26 +63,19 @@ fn is_by_register(i: usize) -> bool {
     }
 }
 
-// 1 if it is as wanted whether we answer what the rule does.
-fn counts(rule: Rule, i: usize, wanted: bool) -> usize
-    ensures { result ≤ 1 }
-{
-    let alike = match rule {
-        Rule::Formula => is_by_formula(i, true, false),
-        Rule::FormulaAsPrinted => is_by_formula(i, true, true),
-        Rule::FormulaWithoutHeader => is_by_formula(i, false, false),
-        Rule::Register => is_by_register(i),
-        Rule::Generators => ours::codeword(i) == matrices::product(i % 16, i / 16 % 4 * 4),
-        Rule::Checks => ours::checks(i) == matrices::checks(i),
-    };
-    if alike == wanted { 1 } else { 0 }
+// Whether codeword i of those at CR 1 to 4 is the matrices'.
+pub fn is_by_generators(i: usize) -> bool {
+    ours::codeword(i) == matrices::product(i % 16, i / 16 % 4 * 4)
+}
+
+// Whether the check bits of header i are the matrix's.
+pub fn is_by_checks(i: usize) -> bool {
+    ours::checks(i) == matrices::checks(i)
 }
 
 // In how many cases we answer what the document's rule does, where that is wanted, or something else, where it is not.
-pub fn compared(rule: Rule, cases: usize, wanted: bool) -> usize {
-    let mut count: usize = 0;
-    for i in 0..cases {
-        count += counts(rule, i, wanted);
-    }
-    count
+pub fn compared<F: Fn(usize) -> bool>(alike: F, cases: usize, wanted: bool) -> usize
+    requires { F.IsAlwaysCallable alike }
+{
+    (0..cases).filter(|i| alike(*i) == wanted).count()
 }

@@ -1,41 +1,30 @@
 -- What the turns of the loop hand on: the chunk that a read left is taken whole, and its answers go to the system as they are.
 -- Assumes nothing.
-use Rattle.std.specs.Prelude.{Bool, true, false, List, ◌≡◌, ℕ, take}
-use Rattle.lines.specs.Stream.{Point, run, Stands}
+use Rattle.std.specs.Prelude.{Bool, true, false, List, Result, Ok, Err, ◌≡◌, ℕ, take}
+use Rattle.std.specs.declared.io.Error.{Error}
+use Rattle.lines.specs.Stream.{run}
 use Rattle.lines.specs.declared.Progress.{Progress}
-use Rattle.system.specs.declared.Got.{Got}
-use Rattle.system.specs.declared.Got.TheVariants.{Bytes, End, Failed}
-use Rattle.filter.specs.declared.Turn.{Turn}
-use Rattle.filter.specs.declared.Turn.TheVariants.{More, Ended, Unread, Unwritten}
-
--- the run goes on
-abbrev pub is_more : Turn → Bool
-is_more More = true
-is_more Ended = false
-is_more (Unread answers error) = false
-is_more (Unwritten answers error) = false
+use Rattle.filter.specs.declared.Broken.{Broken}
+use Rattle.filter.specs.declared.Broken.TheVariants.{Unread, Unwritten}
 
 -- a chunk was taken whole, or a write failed
-abbrev pub OnChunk : Turn → Progress → Point → List ℕ → List ℕ → Type 0
-OnChunk More progress p chunk numbers = Stands (run p chunk) progress numbers
-OnChunk Ended progress p chunk numbers = ⊥
-OnChunk (Unread answers error) progress p chunk numbers = ⊥
-OnChunk (Unwritten answers error) progress p chunk numbers = Unit
+abbrev pub OnChunk : Result Unit Broken → Progress → List ℕ → Progress → Type 0
+OnChunk (Ok done) p chunk later = later ≡ run p chunk
+OnChunk (Err (Unread answers error)) p chunk later = ⊥
+OnChunk (Err (Unwritten answers error)) p chunk later = Unit
 
 -- after a read: the run goes on, or a write failed, behind exactly the bytes that it left; it has ended where the read came to the
 -- end, and stands where it stood; it was broken off where the read failed. Nothing is made up
-abbrev pub Came : Turn → Progress → Got → Progress → Point → List ℕ → List ℕ → Type 0
-Came More later got progress p buffer numbers = (n : ℕ) × (got ≡ Bytes n) × Stands (run p (take n buffer)) later numbers
-Came Ended later got progress p buffer numbers = (got ≡ End) × (later ≡ progress) × Stands p later numbers
-Came (Unread answers error) later got progress p buffer numbers = (got ≡ Failed error) × (answers ≡ progress.counts.texts)
-Came (Unwritten answers error) later got progress p buffer numbers = (n : ℕ) × (got ≡ Bytes n)
+abbrev pub Came : Result Bool Broken → Result ℕ Error → Progress → List ℕ → Progress → Type 0
+Came (Ok true) got p buffer later = (n : ℕ) × (got ≡ Ok n) × (later ≡ run p (take n buffer))
+Came (Ok false) got p buffer later = (got ≡ Ok 0) × (later ≡ p)
+Came (Err (Unread answers error)) got p buffer later = (got ≡ Err error) × (answers ≡ p.counts.texts)
+Came (Err (Unwritten answers error)) got p buffer later = (n : ℕ) × (got ≡ Ok n)
 
-pub record Follows (turn : Turn) (later : Progress) (got : Got) (progress : Progress) (p : Point) (buffer numbers : List ℕ) : Type 0 where
-  pub came : Came turn later got progress p buffer numbers
+pub record Follows (turn : Result Bool Broken) (got : Result ℕ Error) (p : Progress) (buffer : List ℕ) (later : Progress) : Type 0 where
+  pub came : Came turn got p buffer later
 
 -- a run that has ended has taken some input whole
-abbrev pub Finished : Turn → Progress → Point → List ℕ → Type 0
-Finished More progress p numbers = ⊥
-Finished Ended progress p numbers = (input : List ℕ) × Stands (run p input) progress numbers
-Finished (Unread answers error) progress p numbers = Unit
-Finished (Unwritten answers error) progress p numbers = Unit
+abbrev pub Finished : Result Unit Broken → Progress → Progress → Type 0
+Finished (Ok done) p later = (input : List ℕ) × (later ≡ run p input)
+Finished (Err broken) p later = Unit

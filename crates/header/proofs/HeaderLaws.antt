@@ -8,13 +8,14 @@ use native.Mathlib.Omega.{arith}
 use lib.Dec.{ltb}
 use lib.ListN.{length, get_or}
 use borrow.Author.Tests.{lt-ltb, eq-eqb, ltb-true}
+use Rattle.std.specs.Prelude.{Ok}
 use Rattle.bits.specs.Bit.{bit, as_bit, is_set}
 use Rattle.bits.specs.Check.{check}
 use Rattle.bits.specs.Tab.{tab}
 use Rattle.bits.proofs.Searches.{as_bit-le}
 use Rattle.header.specs.declared.Header.{Header}
-use Rattle.header.specs.declared.Verdict.TheVariants.{Says, Refused}
 use Rattle.header.specs.Header.{c4, low_checks, with_checks, header_nibbles, checks_hold, zeros_hold, rate_holds, header_in, verdict_of}
+use Rattle.refusal.specs.Refusal.{refuse}
 
 -- a check bit is its own bit 0, and has no other
 bit-of-check : (sum : ℕ) → bit 0 (sum % 2) ≡ sum % 2
@@ -30,7 +31,7 @@ four-lt p q r s = omega arith
 
 -- three nibbles with their checks are read as what they say
 verdict-checks : (a b e : ℕ) → 2 ≤ e → e < 10
-    → verdict_of (with_checks a b e) ≡ Says (record { length = a * 16 + b; cr = e / 2; checked = is_set (e % 2) })
+    → verdict_of (with_checks a b e) ≡ Ok (record { length = a * 16 + b; cr = e / 2; checked = is_set (e % 2) })
 unfolding verdict_of with_checks
 verdict-checks a b e low high =
     let some : 0 < e / 2 = omega arith in
@@ -39,7 +40,7 @@ verdict-checks a b e low high =
 
 module _ (len cr : ℕ) (checked : Bool) where
   -- the header read back
-  verdict-header : len < 256 → 1 ≤ cr → cr ≤ 4 → verdict_of (header_nibbles len cr checked) ≡ Says (record { length = len; cr = cr; checked = checked })
+  verdict-header : len < 256 → 1 ≤ cr → cr ≤ 4 → verdict_of (header_nibbles len cr checked) ≡ Ok (record { length = len; cr = cr; checked = checked })
   unfolding header_nibbles
   verdict-header h low high =
       let whole : len / 16 * 16 + len % 16 ≡ len = omega arith in
@@ -52,7 +53,7 @@ module _ (len cr : ℕ) (checked : Bool) where
 
   -- the header comes back from five nibbles that are its own
   pub header-back : (nib : ℕ → ℕ) → len < 256 → 1 ≤ cr → cr ≤ 4 → ((i : ℕ) → i < 5 → nib i ≡ get_or (header_nibbles len cr checked) i 0)
-      → verdict_of (tab 5 nib) ≡ Says (record { length = len; cr = cr; checked = checked })
+      → verdict_of (tab 5 nib) ≡ Ok (record { length = len; cr = cr; checked = checked })
   unfolding tab header_nibbles with_checks
   header-back nib h low high own =
       rw (own 0 (omega arith), own 1 (omega arith), own 2 (omega arith), own 3 (omega arith), own 4 (omega arith))
@@ -78,13 +79,13 @@ rate-range h e =
     (omega (arith, ltb-true 0 (get_or h 2 0 / 2) low), omega (arith, ltb-true (get_or h 2 0 / 2) 5 high))
 
 -- what five nibbles say is in range
-pub says_range : (nib : ℕ → ℕ) (said : Header) → ((i : ℕ) → nib i < 16) → verdict_of (tab 5 nib) ≡ Says said
+pub says_range : (nib : ℕ → ℕ) (said : Header) → ((i : ℕ) → nib i < 16) → verdict_of (tab 5 nib) ≡ Ok said
     → (said.length < 256) × (1 ≤ said.cr) × (said.cr ≤ 4)
 unfolding verdict_of tab
 says_range nib said small v = go (checks_hold (tab 5 nib)) (zeros_hold (tab 5 nib)) (rate_holds (tab 5 nib)) refl v
   where
     go : (p q r : Bool) → rate_holds (tab 5 nib) ≡ r
-        → check p (Refused 9) (check q (Refused 10) (check r (Refused 11) (Says (header_in (tab 5 nib))))) ≡ Says said
+        → check p (refuse 9 0) (check q (refuse 10 0) (check r (refuse 11 0) (Ok (header_in (tab 5 nib))))) ≡ Ok said
         → (said.length < 256) × (1 ≤ said.cr) × (said.cr ≤ 4)
     go true true true e v =
         let is : header_in (tab 5 nib) ≡ said = cc in

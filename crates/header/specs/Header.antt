@@ -1,11 +1,11 @@
 -- Document 01, "Header".
 -- Assumes nothing.
-use Rattle.std.specs.Prelude.{Bool, ◌&&◌, List, [], ◌∷◌, ℕ, ◌+◌, ◌*◌, ◌/◌, ◌%◌, eqb, ltb, get_or}
+use Rattle.std.specs.Prelude.{Bool, ◌&&◌, List, [], ◌∷◌, ℕ, ◌+◌, ◌*◌, ◌/◌, ◌%◌, eqb, ltb, get_or, Result, Ok}
 use Rattle.bits.specs.Bit.{bit, as_bit, is_set}
 use Rattle.bits.specs.Check.{check}
 use Rattle.header.specs.declared.Header.{Header}
-use Rattle.header.specs.declared.Verdict.{Verdict}
-use Rattle.header.specs.declared.Verdict.TheVariants.{Says, Refused}
+use Rattle.refusal.specs.Refusal.{refuse}
+use Rattle.refusal.specs.declared.Refusal.{Refusal}
 
 -- the check sums over the first three nibbles a, b and e, mod 2
 abbrev pub c4 : ℕ → ℕ
@@ -52,10 +52,10 @@ rate_holds h = ltb 0 (get_or h 2 0 / 2) && ltb (get_or h 2 0 / 2) 5
 abbrev pub header_in : List ℕ → Header
 header_in h = record { length = get_or h 0 0 * 16 + get_or h 1 0; cr = get_or h 2 0 / 2; checked = is_set (get_or h 2 0 % 2) }
 
--- refusals 9, 10 and 11 in that order, or what the header says
-unfoldable pub verdict_of : List ℕ → Verdict
+-- refusals 9, 10 and 11 in that order, each at place 0, or what the header says
+unfoldable pub verdict_of : List ℕ → Result Header Refusal
 verdict_of h =
-    check (checks_hold h) (Refused 9)
-    (check (zeros_hold h) (Refused 10)
-    (check (rate_holds h) (Refused 11)
-    (Says (header_in h))))
+    check (checks_hold h) (refuse 9 0)
+    (check (zeros_hold h) (refuse 10 0)
+    (check (rate_holds h) (refuse 11 0)
+    (Ok (header_in h))))

@@ -5,22 +5,18 @@ ghost use Rattle.std.specs.Prelude.{◌≡◌, ◌+◌, ◌*◌, ◌<◌, ◌≤
 ghost use Rattle.bits.specs.Bit.{bit, as_bit};
 ghost use Rattle.header.specs.Header.{c0, c1, c2, c3, c4, low_checks, header_nibbles, checks_hold, zeros_hold, rate_holds, header_in, verdict_of};
 
+use refusal::Refusal;
+
 // What a header says: the payload's length, the rate, and whether a checksum follows the payload.
-#[derive(Clone, Copy)]
+#[derive(Clone, Copy, Debug, PartialEq, Eq)]
 pub struct Header {
     pub length: usize,
     pub cr: u8,
     pub checked: bool,
 }
 
-// What five nibbles say, or the number of the refusal.
-#[derive(Clone, Copy)]
-pub enum Verdict {
-    Says(Header),
-    Refused { number: u8 },
-}
-
 // Bit k of x.
+#[tactic(auto, unfolding(bits::specs::Bit::bit))]
 fn bit(k: u8, x: u8) -> u8
     requires { k < 8 }
     ensures { (result ≡ bit k x) × (result < 2) }
@@ -28,7 +24,8 @@ fn bit(k: u8, x: u8) -> u8
     (x >> k) % 2
 }
 
-// The check bits of the first three nibbles a, b and e: c4, c3, c2, c1 and c0.
+// The check bits of the first three nibbles a, b and e: c4, c3, c2, c1 and c0. One function each, with its sum as document 01 has it:
+// one for all, by a table of masks, would say them less plainly.
 fn check4(a: u8) -> u8
     ensures { result ≡ c4 a }
 {
@@ -71,14 +68,16 @@ fn third(cr: u8, checked: bool) -> u8
     requires { cr ≤ 4 }
     ensures { result ≡ cr * 2 + as_bit checked }
 {
-    if checked { cr * 2 + 1 } else { cr * 2 }
+    cr * 2 + u8::from(checked)
 }
 
 // The header of a payload.
+#[tactic(auto, unfolding(crate::specs::Header::header_nibbles, crate::specs::Header::with_checks))]
 pub fn header_nibbles(length: usize, cr: u8, checked: bool) -> [u8; 5]
     requires { (length < 256) × (cr ≤ 4) }
     ensures { result ≡ header_nibbles length cr checked }
 {
+    // `as`, since both are nibbles, and TryFrom would answer an error that can't come.
     let a = (length / 16) as u8;
     let b = (length % 16) as u8;
     let e = third(cr, checked);
@@ -110,7 +109,7 @@ fn rate_holds(h: [u8; 5]) -> bool
 fn length_of(a: u8, b: u8) -> usize
     ensures { result ≡ a * 16 + b }
 {
-    bits::wide(a) * 16 + bits::wide(b)
+    usize::from(a) * 16 + usize::from(b)
 }
 
 // What the first three nibbles say.
@@ -125,26 +124,27 @@ fn header_in(h: [u8; 5]) -> Header
 }
 
 // What five nibbles say.
-pub fn judge(h: [u8; 5]) -> Verdict
+#[tactic(auto, unfolding(crate::specs::Header::verdict_of))]
+pub fn judge(h: [u8; 5]) -> Result<Header, Refusal>
     ensures { result ≡ verdict_of h }
 {
-    let checks = checks_hold(h);
-    let zeros = zeros_hold(h);
-    let rate = rate_holds(h);
-    if !checks {
-        return Verdict::Refused {
+    if !checks_hold(h) {
+        return Err(Refusal {
             number: refusal::HEADER_CHECK,
-        };
+            place: 0,
+        });
     }
-    if !zeros {
-        return Verdict::Refused {
+    if !zeros_hold(h) {
+        return Err(Refusal {
             number: refusal::HEADER_BIT,
-        };
+            place: 0,
+        });
     }
-    if !rate {
-        return Verdict::Refused {
+    if !rate_holds(h) {
+        return Err(Refusal {
             number: refusal::HEADER_CR,
-        };
+            place: 0,
+        });
     }
-    Verdict::Says(header_in(h))
+    Ok(header_in(h))
 }

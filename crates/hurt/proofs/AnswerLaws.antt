@@ -4,15 +4,15 @@ use mathlib.Core.Path.{◌≡◌, refl}
 use mathlib.Core.Bool.{Bool}
 use mathlib.Core.List.{List}
 use Prim.Native.Nat.{ℕ}
+use Rattle.std.specs.Prelude.{Ok, Err}
 use Rattle.bits.specs.Tab.{blank}
 use Rattle.capture.specs.Call.{ReadFor, Heard}
 use Rattle.capture.specs.Capture.{Capture, bad, frame}
 use Rattle.capture.specs.Scan.{start, run}
 use Rattle.capture.proofs.CaptureLaws.{scanned}
 use Rattle.lora.specs.Read.{read_of}
+use Rattle.lora.specs.Received.{Received}
 use Rattle.lora.specs.declared.Expected.{Expected}
-use Rattle.lora.specs.declared.Received.{Received}
-use Rattle.lora.specs.declared.Received.TheVariants.{Payload, Refused}
 use Rattle.lora.proofs.AnswerLaws.{accepts}
 use Rattle.text.proofs.AnswerLaws.{frame-read}
 use Rattle.hurt.specs.Answer.{Marked, line_at}
@@ -23,8 +23,8 @@ read-marked : (sf : ℕ) (low : Bool) (expected : Expected) (symbols : List ℕ)
 read-marked sf low expected symbols = one (read_of sf low expected symbols 255 832) refl
   where
     one : (r : Received) → read_of sf low expected symbols 255 832 ≡ r → Marked r
-    one (Payload a) e = (accepts sf low expected symbols 255 832 a e).lists
-    one (Refused number place) e = tt
+    one (Ok a) e = (accepts sf low expected symbols 255 832 a e).lists
+    one (Err x) e = tt
 
 -- what was read gives the line that the capture is answered by
 pub hurt-line : {c : Capture} {payload hurts : List ℕ} {r : Received} → Heard c (blank 255 0) payload (blank 832 0) hurts r

@@ -1,13 +1,13 @@
 -- Document 02, Ask 3: the line that says which symbols of a frame were hurt, and how often.
 -- Assumes nothing.
-use Rattle.std.specs.Prelude.{Bool, cond, List, [], ◌∷◌, ◌++◌, ℕ, ◌+◌, eqb, take}
+use Rattle.std.specs.Prelude.{Bool, cond, List, [], ◌∷◌, ◌++◌, ℕ, ◌+◌, eqb, take, Ok, Err}
 use Rattle.bits.specs.Tab.{blank}
 use Rattle.capture.specs.Capture.{Capture, bad, frame, capture_of}
 use Rattle.line.specs.Line.{decimal, field, line_of}
 use Rattle.lora.specs.Read.{read_of, hurts_after}
+use Rattle.lora.specs.Received.{Received}
 use Rattle.lora.specs.declared.Expected.{Expected}
-use Rattle.lora.specs.declared.Received.{Received}
-use Rattle.lora.specs.declared.Received.TheVariants.{Payload, Refused}
+use Rattle.refusal.specs.Refusal.{refuse}
 
 -- a symbol's index and its count, a colon between them; nothing where the count is 0
 unfoldable pub entry : ℕ → ℕ → List ℕ
@@ -24,13 +24,13 @@ ok_line counts = (111 ∷ 107 ∷ []) ++ (entries_from 0 counts ++ (10 ∷ []))
 
 -- a refusal has the line that the reading program prints
 abbrev pub hurt_line : Received → List ℕ → List ℕ
-hurt_line (Payload a) counts = ok_line counts
-hurt_line (Refused number place) counts = line_of (Refused number place) []
+hurt_line (Ok a) counts = ok_line counts
+hurt_line (Err e) counts = line_of (Err e) []
 
 -- the counts of the frame's own symbols, in the cells that were read into
 abbrev pub hurts_in : Received → List ℕ → List ℕ
-hurts_in (Payload a) cells = take a.symbols cells
-hurts_in (Refused number place) cells = []
+hurts_in (Ok a) cells = take a.symbols cells
+hurts_in (Err e) cells = []
 
 -- the line for what read answers, into 255 cells and 832 counts
 abbrev pub line_for : ℕ → Bool → Expected → List ℕ → Received → List ℕ
@@ -38,7 +38,7 @@ line_for sf low expected symbols r = hurt_line r (hurts_in r (hurts_after r sf l
 
 -- the line that answers a capture; any that can't be taken is refusal 14
 abbrev pub answer_to : Capture → List ℕ
-answer_to bad = hurt_line (Refused 14 0) []
+answer_to bad = hurt_line (refuse 14 0) []
 answer_to (frame sf low expected symbols) = line_for sf low expected symbols (read_of sf low expected symbols 255 832)
 
 unfoldable pub answer_of : List ℕ → List ℕ

@@ -3,7 +3,7 @@
 
 ghost use Rattle.std.specs.Prelude.{◌≡◌, ◌+◌, ◌*◌, ◌≤◌, length};
 ghost use Rattle.bits.specs.Tab.{placed};
-ghost use Rattle.capture.specs.Scan.{Sane, state_of, outcome_at};
+ghost use Rattle.capture.specs.Scan.{outcome_at};
 ghost use Rattle.line.specs.Outcome.{Answered};
 ghost use Rattle.line.specs.declared.Outcome.TheVariants.{Heard};
 ghost use Rattle.put.specs.Put.{Put};
@@ -25,8 +25,8 @@ fn put_entry(out: &mut [u8], at: usize, symbol: usize, count: u8) -> usize
         return at;
     }
     let after_symbol = line::put_field(out, at, symbol);
-    let after_colon = put(out, after_symbol, 58);
-    line::put_decimal(out, after_colon, bits::wide(count))
+    let after_colon = put(out, after_symbol, b':');
+    line::put_decimal(out, after_colon, usize::from(count))
 }
 
 // Writes the entries of the symbols that have these counts, from symbol 0 on, and answers the next place.
@@ -35,8 +35,8 @@ fn put_hurts(out: &mut [u8], at: usize, hurts: &[u8]) -> usize
     ensures { Put at (entries_from 0 hurts.now) out.old out.new result × (result ≤ at + 8 * length hurts.now) }
 {
     let mut next = at;
-    for i in 0..hurts.len() {
-        next = put_entry(out, next, i, hurts[i]);
+    for (i, &count) in hurts.iter().enumerate() {
+        next = put_entry(out, next, i, count);
     }
     next
 }
@@ -46,9 +46,9 @@ fn write_ok(hurts: &[u8], out: &mut [u8]) -> usize
     requires { (length hurts.now ≤ 832) × (7000 ≤ length out.old) }
     ensures { Put 0 (ok_line hurts.now) out.old out.new result × (result ≤ 7000) }
 {
-    let after_ok = line::put_word(out, 111, 107);
+    let after_ok = line::put_words(out, 0, b"ok");
     let after_hurts = put_hurts(out, after_ok, hurts);
-    put(out, after_hurts, 10)
+    put(out, after_hurts, b'\n')
 }
 
 // The line for what was read, with these counts.
@@ -57,13 +57,8 @@ fn write_hurt(received: Received, hurts: &[u8], out: &mut [u8]) -> usize
     ensures { (result ≡ length (hurt_line received (hurts_in received hurts.now))) × (result ≤ 7000) × (out.new ≡ placed 0 (hurt_line received (hurts_in received hurts.now)) out.old) }
 {
     match received {
-        Received::Payload(a) => {
-            let used = a.symbols;
-            write_ok(&hurts[..used], out)
-        }
-        Received::Refused { number, place } => {
-            line::write_line(Received::Refused { number, place }, &hurts[..0], out)
-        }
+        Ok(a) => write_ok(&hurts[..a.symbols], out),
+        Err(_) => line::write_line(received, &[], out),
     }
 }
 
@@ -79,13 +74,13 @@ fn answer_with(received: Received, hurts: &[u8], out: &mut [u8]) -> Answer
 }
 
 // The line that answers the capture that was taken and ends here, written to the lent buffer.
-pub fn answer(scan: Scan, numbers: &mut [u16], out: &mut [u8]) -> Answer
-    requires { Sane scan numbers.old × (7000 ≤ length out.old) }
-    ensures { Answered 7000 (line_at (state_of scan numbers.old)) (outcome_at (state_of scan numbers.old)) out.old out.new result }
+pub fn answer(scan: &mut Scan, out: &mut [u8]) -> Answer
+    requires { 7000 ≤ length out.old }
+    ensures { Answered 7000 (line_at scan.old) (outcome_at scan.old) out.old out.new result }
 {
-    let done = capture::finish(scan, numbers);
+    scan.finish();
     let mut payload = [0u8; LONGEST];
     let mut hurts = [0u8; MOST_SYMBOLS];
-    let received = capture::receive(done, numbers, &mut payload, &mut hurts);
+    let received = scan.receive(&mut payload, &mut hurts);
     answer_with(received, &hurts, out)
 }

@@ -1,11 +1,10 @@
 -- What a capture is heard as.
 -- Assumes nothing.
-use Rattle.std.specs.Prelude.{◌≤◌}
+use Rattle.std.specs.Prelude.{◌≤◌, Ok, Err}
+use Rattle.lora.specs.Received.{Received}
 use Rattle.lora.specs.declared.Accepted.{Accepted}
-use Rattle.lora.specs.declared.Received.{Received}
-use Rattle.lora.specs.declared.Received.TheVariants.{Payload, Refused}
 use Rattle.keep.specs.declared.hearing.Heard.{Heard}
-use Rattle.keep.specs.declared.hearing.Heard.TheVariants.{Frame, Refused as Declined, Told}
+use Rattle.keep.specs.declared.hearing.Heard.TheVariants.{Frame, Refused, Told}
 
 -- what is said of a payload fits the numbers of an entry
 pub record Fits (a : Accepted) : Type 0 where
@@ -14,11 +13,11 @@ pub record Fits (a : Accepted) : Type 0 where
 
 -- the same of an answer of read
 abbrev pub Read : Received → Type 0
-Read (Payload a) = Fits a
-Read (Refused number place) = place ≤ 65535
+Read (Ok a) = Fits a
+Read (Err e) = e.place ≤ 65535
 
 -- and of what was heard
 abbrev pub Sound : Heard → Type 0
 Sound (Frame sf low a) = Fits a
-Sound (Declined sf low number place) = place ≤ 65535
-Sound (Told number place) = Unit
+Sound (Refused sf low e) = e.place ≤ 65535
+Sound (Told e) = Unit

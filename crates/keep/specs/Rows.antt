@@ -1,18 +1,17 @@
--- The entries in the lent lists.
+-- The entries in the lists.
 -- Assumes nothing.
-use Rattle.std.specs.Prelude.{List, [], ◌∷◌, ◌≡◌, ℕ, ◌+◌, ◌*◌, ◌≤◌, length}
+use Rattle.std.specs.Prelude.{List, [], ◌∷◌, ℕ, ◌+◌, ◌*◌, ◌≤◌}
 use Rattle.bits.specs.Bit.{as_bit}
-use Rattle.capture.specs.Scan.{Sane}
 use Rattle.lora.specs.declared.Accepted.{Accepted}
+use Rattle.refusal.specs.declared.Refusal.{Refusal}
 use Rattle.keep.specs.declared.Rows.{Rows}
-use Rattle.keep.specs.declared.Progress.{Progress}
 
 -- an entry in numbers
 abbrev pub frame_numbers : ℕ → Accepted → List ℕ
 frame_numbers index a = index ∷ a.cr ∷ as_bit a.checked ∷ a.repairs ∷ a.length ∷ []
 
-abbrev pub refused_numbers : ℕ → ℕ → ℕ → List ℕ
-refused_numbers index number place = index ∷ number ∷ place ∷ []
+abbrev pub refused_numbers : ℕ → Refusal → List ℕ
+refused_numbers index e = index ∷ e.number ∷ e.place ∷ []
 
 -- no more of each kind than the lists take: a pair of settings comes with an entry, a payload with a frame
 pub record Few (rows : Rows) : Type 0 where
@@ -22,20 +21,13 @@ pub record Few (rows : Rows) : Type 0 where
   pub repaired : rows.repaired ≤ rows.frames
   pub refused : rows.refused ≤ 256
 
--- the lent lists
-pub record Lent (numbers settings frames payloads refused : List ℕ) : Type 0 where
-  pub texts : length numbers ≡ 837
-  pub pairs : length settings ≡ 1024
-  pub fives : length frames ≡ 1280
-  pub bytes : length payloads ≡ 65535
-  pub threes : length refused ≡ 768
+-- none yet
+abbrev pub no_rows : Rows
+no_rows = record { settings = 0; frames = 0; bytes = 0; repaired = 0; refused = 0 }
 
--- a run on its way
-pub record Going (progress : Progress) (numbers settings frames payloads refused : List ℕ) : Type 0 where
-  pub sane : Sane progress.scan numbers
-  pub few : Few progress.rows
-  pub lent : Lent numbers settings frames payloads refused
-
--- at its beginning, whatever the lent lists have
-pub record Begins (progress : Progress) : Type 0 where
-  pub going : (numbers settings frames payloads refused : List ℕ) → Lent numbers settings frames payloads refused → Going progress numbers settings frames payloads refused
+-- no entry is lost, and of each kind there is at most one more
+pub record Grown (old new : Rows) : Type 0 where
+  pub kept : old.frames ≤ new.frames
+  pub more : new.frames ≤ old.frames + 1
+  pub refused_kept : old.refused ≤ new.refused
+  pub refused_more : new.refused ≤ old.refused + 1

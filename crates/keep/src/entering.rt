@@ -1,13 +1,16 @@
 // What was heard becomes a row behind the others of its kind.
-ghost use Rattle.std.specs.Prelude.{◌≡◌, [], ◌∷◌, ◌+◌, ◌*◌, ◌≤◌, ◌<◌, length};
-ghost use Rattle.bits.specs.Bit.{as_bit};
+ghost use Rattle.std.specs.Prelude.{◌≡◌, ◌+◌, ◌*◌, ◌≤◌, ◌<◌, length};
 ghost use Rattle.put.specs.Put.{Put};
 ghost use Rattle.keep.specs.Heard.{Fits, Sound};
-ghost use Rattle.keep.specs.Rows.{Few, frame_numbers, refused_numbers};
+ghost use Rattle.keep.specs.Rows.{frame_numbers, refused_numbers, no_rows, Grown};
 
 use crate::hearing::Heard;
-use crate::{MOST, Rows};
+use crate::{FRAMES, MOST, PAYLOADS, REFUSED, Rows, SETTINGS, hearing};
+use capture::Scan;
 use lora::Accepted;
+use put::put_words;
+use refusal::Refusal;
+use std::marker::Model;
 
 // The index of a settings pair, and how many pairs there are now.
 #[derive(Clone, Copy)]
@@ -16,25 +19,15 @@ struct Setting {
     settings: usize,
 }
 
-fn is_pair(settings: &[u8], k: usize, sf: u8, low: u8) -> bool
-    requires { 2 * k + 1 < length settings.now }
-{
-    settings[2 * k] == sf && settings[2 * k + 1] == low
-}
-
 // The first of so many pairs that is this one; behind them where none is.
 fn index_of(settings: &[u8], count: usize, sf: u8, low: u8) -> usize
     requires { 2 * count ≤ length settings.now }
     ensures { result ≤ count }
 {
-    let mut k = 0;
-    while k < count {
-        if is_pair(settings, k, sf, low) {
-            return k;
-        }
-        k += 1;
-    }
-    k
+    settings[..2 * count]
+        .chunks_exact(2)
+        .position(|pair| pair == [sf, low].as_slice())
+        .unwrap_or(count)
 }
 
 // The index of a pair, which is new at its first use.
@@ -57,39 +50,36 @@ fn setting_of(settings: &mut [u8], count: usize, sf: u8, low: u8) -> Setting
     }
 }
 
-fn flag(b: bool) -> u8
-    ensures { result ≡ as_bit b }
-{
-    if b { 1 } else { 0 }
-}
-
-// Where a row of numbers goes on, behind the one that was put.
-fn put(rows: &mut [u16], at: usize, n: u16) -> usize
-    requires { at < length rows.old }
-    ensures { Put at (n ∷ []) rows.old rows.new result }
-{
-    rows[at] = n;
-    at + 1
-}
-
 fn put_frame(frames: &mut [u16], at: usize, index: usize, accepted: Accepted) -> usize
     requires { (at + 5 ≤ length frames.old) × (index ≤ 65535) × Fits accepted }
     ensures { Put at (frame_numbers index accepted) frames.old frames.new result }
 {
-    let after_index = put(frames, at, narrow(index));
-    let after_cr = put(frames, after_index, accepted.cr as u16);
-    let after_flag = put(frames, after_cr, flag(accepted.checked) as u16);
-    let after_repairs = put(frames, after_flag, narrow(accepted.repairs));
-    put(frames, after_repairs, narrow(accepted.length))
+    put_words(
+        frames,
+        at,
+        &[
+            narrow(index),
+            u16::from(accepted.cr),
+            u16::from(accepted.checked),
+            narrow(accepted.repairs),
+            narrow(accepted.length),
+        ],
+    )
 }
 
-fn put_refused(refused: &mut [u16], at: usize, index: usize, number: u8, place: usize) -> usize
-    requires { (at + 3 ≤ length refused.old) × (index ≤ 65535) × (place ≤ 65535) }
-    ensures { Put at (refused_numbers index number place) refused.old refused.new result }
+fn put_refused(refused: &mut [u16], at: usize, index: usize, refusal: Refusal) -> usize
+    requires { (at + 3 ≤ length refused.old) × (index ≤ 65535) × (refusal.place ≤ 65535) }
+    ensures { Put at (refused_numbers index refusal) refused.old refused.new result }
 {
-    let after_index = put(refused, at, narrow(index));
-    let after_number = put(refused, after_index, number as u16);
-    put(refused, after_number, narrow(place))
+    put_words(
+        refused,
+        at,
+        &[
+            narrow(index),
+            u16::from(refusal.number),
+            narrow(refusal.place),
+        ],
+    )
 }
 
 fn narrow(n: usize) -> u16
@@ -99,89 +89,140 @@ fn narrow(n: usize) -> u16
     n as u16
 }
 
-// One more among the frames with repairs, if it has some.
-fn with_repairs(repaired: usize, repairs: usize) -> usize
-    requires { repaired ≤ 256 }
-    ensures { result ≤ repaired + 1 }
-{
-    if repairs > 0 { repaired + 1 } else { repaired }
+// The day's entries so far, in lists of a fixed room: how many there are, the rows of numbers, and the payloads one behind the
+// other.
+#[derive(Drop)]
+pub struct Entries {
+    rows: Rows,
+    settings: [u8; SETTINGS],
+    frames: [u16; FRAMES],
+    payloads: [u8; PAYLOADS],
+    refused: [u16; REFUSED],
 }
 
-fn enter_frame(
-    rows: Rows,
-    sf: u8,
-    low: bool,
-    accepted: Accepted,
-    settings: &mut [u8],
-    frames: &mut [u16],
-) -> Rows
-    requires { Few rows × Fits accepted × (length settings.old ≡ 1024) × (length frames.old ≡ 1280) }
-    ensures { Few result }
-{
-    if rows.frames >= MOST {
-        return rows;
-    }
-    let setting = setting_of(settings, rows.settings, sf, flag(low));
-    put_frame(frames, 5 * rows.frames, setting.index, accepted);
-    Rows {
-        settings: setting.settings,
-        frames: rows.frames + 1,
-        bytes: rows.bytes + accepted.length,
-        repaired: with_repairs(rows.repaired, accepted.repairs),
-        refused: rows.refused,
-    }
+impl Model for Entries {
+    ghost use Rattle.keep.specs.declared.Rows.{Rows};
+
+    ghost Value = { Rows };
+
+    ghost use Rattle.keep.specs.Rows.{Few};
+
+    ghost view = { λ e. e.rows };
+
+    ghost invariant = { λ e. Few e.rows };
 }
 
-fn enter_refused(
-    rows: Rows,
-    sf: u8,
-    low: bool,
-    number: u8,
-    place: usize,
-    settings: &mut [u8],
-    refused: &mut [u16],
-) -> Rows
-    requires { Few rows × (place ≤ 65535) × (length settings.old ≡ 1024) × (length refused.old ≡ 768) }
-    ensures { Few result }
-{
-    if rows.refused >= MOST {
-        return rows;
-    }
-    let setting = setting_of(settings, rows.settings, sf, flag(low));
-    put_refused(refused, 3 * rows.refused, setting.index, number, place);
-    Rows {
-        settings: setting.settings,
-        frames: rows.frames,
-        bytes: rows.bytes,
-        repaired: rows.repaired,
-        refused: rows.refused + 1,
-    }
-}
-
-// The rows with what was heard; of what is told, the file has nothing.
-pub fn enter(
-    rows: Rows,
-    heard: Heard,
-    settings: &mut [u8],
-    frames: &mut [u16],
-    refused: &mut [u16],
-) -> Rows
-    requires { Few rows × Sound heard × (length settings.old ≡ 1024) × (length frames.old ≡ 1280) × (length refused.old ≡ 768) }
-    ensures { Few result }
-{
-    match heard {
-        Heard::Frame { sf, low, accepted } => {
-            enter_frame(rows, sf, low, accepted, settings, frames)
+impl Entries {
+    // None yet.
+    pub fn new() -> Entries
+        ensures { result ≡ no_rows }
+    {
+        Entries {
+            rows: Rows {
+                settings: 0,
+                frames: 0,
+                bytes: 0,
+                repaired: 0,
+                refused: 0,
+            },
+            settings: [0u8; SETTINGS],
+            frames: [0u16; FRAMES],
+            payloads: [0u8; PAYLOADS],
+            refused: [0u16; REFUSED],
         }
-        Heard::Refused {
-            sf,
-            low,
-            number,
-            place,
-        } => enter_refused(rows, sf, low, number, place, settings, refused),
-        Heard::Told {
-            number: _,
-            place: _,
-        } => rows,
+    }
+
+    pub fn rows(&self) -> Rows
+        ensures { result ≡ self.now }
+    {
+        self.rows
+    }
+
+    // The settings, a row of two numbers each.
+    pub fn settings(&self) -> &[u8]
+        ensures { length result.now ≡ 2 * self.now.settings }
+    {
+        &self.settings[..2 * self.rows.settings]
+    }
+
+    // The frames, a row of five numbers each.
+    pub fn frames(&self) -> &[u16]
+        ensures { length result.now ≡ 5 * self.now.frames }
+    {
+        &self.frames[..5 * self.rows.frames]
+    }
+
+    // The frames' payloads.
+    pub fn payloads(&self) -> &[u8]
+        ensures { length result.now ≡ self.now.bytes }
+    {
+        &self.payloads[..self.rows.bytes]
+    }
+
+    // The refused frames, a row of three numbers each.
+    pub fn refused(&self) -> &[u16]
+        ensures { length result.now ≡ 3 * self.now.refused }
+    {
+        &self.refused[..3 * self.rows.refused]
+    }
+
+    fn enter_frame(&mut self, sf: u8, low: bool, accepted: Accepted)
+        requires { Fits accepted }
+        ensures { Grown self.old self.new }
+    {
+        if self.rows.frames >= MOST {
+            return;
+        }
+        let setting = setting_of(&mut self.settings, self.rows.settings, sf, u8::from(low));
+        put_frame(
+            &mut self.frames,
+            5 * self.rows.frames,
+            setting.index,
+            accepted,
+        );
+        self.rows.settings = setting.settings;
+        self.rows.frames += 1;
+        self.rows.bytes += accepted.length;
+        self.rows.repaired += usize::from(accepted.repairs > 0);
+    }
+
+    fn enter_refused(&mut self, sf: u8, low: bool, refusal: Refusal)
+        requires { refusal.place ≤ 65535 }
+        ensures { Grown self.old self.new }
+    {
+        if self.rows.refused >= MOST {
+            return;
+        }
+        let setting = setting_of(&mut self.settings, self.rows.settings, sf, u8::from(low));
+        put_refused(
+            &mut self.refused,
+            3 * self.rows.refused,
+            setting.index,
+            refusal,
+        );
+        self.rows.settings = setting.settings;
+        self.rows.refused += 1;
+    }
+
+    // Enters what was heard; of what is told, the file has nothing.
+    fn enter(&mut self, heard: Heard)
+        requires { Sound heard }
+        ensures { Grown self.old self.new }
+    {
+        match heard {
+            Heard::Frame { sf, low, accepted } => self.enter_frame(sf, low, accepted),
+            Heard::Refused { sf, low, refusal } => self.enter_refused(sf, low, refusal),
+            Heard::Told(_) => {}
+        }
+    }
+
+    // Hears the capture that was taken and ends here, its payload behind those that are there, and enters it; answers what is to
+    // be told of it.
+    pub fn hear(&mut self, scan: &mut Scan) -> Option<Refusal>
+        ensures { Grown self.old self.new }
+    {
+        let heard = hearing::hear_behind(scan, &mut self.payloads, self.rows.bytes);
+        self.enter(heard);
+        hearing::news_of(heard)
     }
 }

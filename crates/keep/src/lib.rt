@@ -7,15 +7,16 @@ mod hearing;
 mod taking;
 mod telling;
 
-pub use taking::{begin, finish, take};
+pub use entering::Entries;
+use refusal::Refusal;
 pub use telling::{put_kept, put_told};
 
 // A section of the file holds 255 entries. One more than that is entered, so that the writer refuses it; any further one
 // would change nothing.
 pub const MOST: usize = 256;
 
-// The lent lists: each entry has at most one settings pair of its own, and a payload is read behind the others before it is
-// known whether it is entered.
+// The room of the lists: each entry has at most one settings pair of its own, and a payload is read behind the others before it
+// is known whether it is entered.
 pub const SETTINGS: usize = 1024;
 
 pub const FRAMES: usize = 1280;
@@ -24,7 +25,7 @@ pub const PAYLOADS: usize = 65535;
 
 pub const REFUSED: usize = 768;
 
-// How many entries stand in the lent lists: settings of two numbers, frames of five, refused frames of three; the bytes of
+// How many entries stand in the lists: settings of two numbers, frames of five, refused frames of three; the bytes of
 // the payloads, and how many of the frames have repairs.
 #[derive(Clone, Copy)]
 pub struct Rows {
@@ -36,27 +37,20 @@ pub struct Rows {
 }
 
 // How far a run has come: the open text, whether it has a byte yet, how many texts ended before it, how many of these were
-// told, and the entries of the others. The numbers of the open text stand in a lent list of 837.
-#[derive(Clone, Copy)]
+// told, and the entries of the others.
+#[derive(Drop)]
 pub struct Progress {
-    pub scan: capture::Scan,
-    pub begun: bool,
+    scan: capture::Scan,
+    begun: bool,
     pub lines: usize,
     pub told: usize,
-    pub rows: Rows,
+    pub entries: Entries,
 }
 
-// What is to be told of the text that ended last: nothing, or a refusal that the file can't hold.
-#[derive(Clone, Copy)]
-pub enum News {
-    Nothing,
-    Told { number: u8, place: usize },
-}
-
-// How far a run has come, the place in the chunk at which it goes on, and what is to be told before it does.
+// The place in a chunk at which a run goes on, and what is to be told before it does: of the text that ended last a refusal that
+// the file can't hold, if it is one.
 #[derive(Clone, Copy)]
 pub struct Step {
-    pub progress: Progress,
     pub at: usize,
-    pub news: News,
+    pub news: Option<Refusal>,
 }

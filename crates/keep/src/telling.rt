@@ -4,20 +4,20 @@ ghost use Rattle.put.specs.Put.{Put};
 ghost use Rattle.keep.specs.Lines.{told_line, kept_line};
 
 use crate::Rows;
-use bits::wide;
 use line::put_words;
+use refusal::Refusal;
 
 // The line for a text that the file can't hold, at the buffer's front.
-pub fn put_told(line: usize, number: u8, place: usize, out: &mut [u8]) -> usize
+pub fn put_told(line: usize, refusal: Refusal, out: &mut [u8]) -> usize
     requires { 100 ≤ length out.old }
-    ensures { Put 0 (told_line line number place) out.old out.new result }
+    ensures { Put 0 (told_line line refusal) out.old out.new result }
 {
     let after_line = put_words(out, 0, b"line");
     let after_count = line::put_field(out, after_line, line);
     let after_no = put_words(out, after_count, b": no");
-    let after_number = line::put_field(out, after_no, wide(number));
-    let after_place = line::put_field(out, after_number, place);
-    put::put(out, after_place, 10)
+    let after_number = line::put_field(out, after_no, usize::from(refusal.number));
+    let after_place = line::put_field(out, after_number, refusal.place);
+    put::put(out, after_place, b'\n')
 }
 
 // The line that ends a run that kept its file, at the buffer's front.
@@ -30,5 +30,5 @@ pub fn put_kept(rows: Rows, told: usize, out: &mut [u8]) -> usize
     let after_repaired = line::put_field(out, after_frames, rows.repaired);
     let after_refused = line::put_field(out, after_repaired, rows.refused);
     let after_told = line::put_field(out, after_refused, told);
-    put::put(out, after_told, 10)
+    put::put(out, after_told, b'\n')
 }

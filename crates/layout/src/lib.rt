@@ -2,7 +2,7 @@
 #![tactic(auto)]
 
 ghost use Rattle.std.specs.Prelude.{◌≡◌, ◌+◌, ◌≤◌, ◌<◌};
-ghost use Rattle.layout.specs.Layout.{valid_sf, valid_cr, rows_of_later, first_block, block_of, data_nibbles, nibbles_of, later_blocks, symbols_of};
+ghost use Rattle.layout.specs.Layout.{valid_sf, valid_cr, rows_of_first, rows_of_later, first_block, block_of, data_nibbles, nibbles_of, later_blocks, symbols_of};
 ghost use Rattle.layout.specs.Ranges.{Valid};
 
 // The longest payload, in bytes, and the most symbols of a frame.
@@ -11,8 +11,9 @@ pub const LONGEST: usize = 255;
 pub const MOST_SYMBOLS: usize = 832;
 
 // The shape of a frame: spreading factor, low-rate flag, code rate, whether a checksum follows the payload, and the number of
-// nibbles in its header.
-#[derive(Clone, Copy)]
+// nibbles in its header. That it is valid each function asks: the type can't keep it, since lora's frame_of makes a frame of any
+// settings. What is asked of a frame is a function, named as its definition in specs/Layout, and no method.
+#[derive(Clone, Copy, Debug, PartialEq, Eq)]
 pub struct Frame {
     pub sf: u8,
     pub low: bool,
@@ -23,7 +24,7 @@ pub struct Frame {
 
 // A block: its code rate, its rows (codewords), whether its symbols stand four apart, and the numbers of its first codeword
 // and its first symbol in the frame.
-#[derive(Clone, Copy)]
+#[derive(Clone, Copy, Debug, PartialEq, Eq)]
 pub struct Block {
     pub rate: u8,
     pub rows: usize,
@@ -32,37 +33,49 @@ pub struct Block {
     pub symbol: usize,
 }
 
+#[tactic(auto, unfolding(crate::specs::Layout::valid_sf))]
 pub fn valid_sf(sf: u8) -> bool
     ensures { result ≡ valid_sf sf }
 {
-    if sf < 7 { false } else { sf <= 12 }
+    (7..=12).contains(&sf)
 }
 
+#[tactic(auto, unfolding(crate::specs::Layout::valid_cr))]
 pub fn valid_cr(cr: u8) -> bool
     ensures { result ≡ valid_cr cr }
 {
-    if cr < 1 { false } else { cr <= 4 }
+    (1..=4).contains(&cr)
 }
 
+#[tactic(auto, unfolding(crate::specs::Layout::rows_of_first))]
+fn rows_of_first(sf: u8) -> usize
+    requires { 7 ≤ sf }
+    ensures { result ≡ rows_of_first sf }
+{
+    usize::from(sf) - 2
+}
+
+#[tactic(auto, unfolding(crate::specs::Layout::rows_of_later, crate::specs::Layout::rows_of_first))]
 fn rows_of_later(f: Frame) -> usize
     requires { Valid f }
     ensures { result ≡ rows_of_later f }
 {
     if f.low {
-        bits::wide(f.sf) - 2
+        rows_of_first(f.sf)
     } else {
-        bits::wide(f.sf)
+        usize::from(f.sf)
     }
 }
 
 // Block 0, which is the same whatever the rest of the frame is like.
+#[tactic(auto, unfolding(crate::specs::Layout::first_block))]
 pub fn first_block(sf: u8) -> Block
     requires { (7 ≤ sf) × (sf ≤ 12) }
     ensures { result ≡ first_block sf }
 {
     Block {
         rate: 4,
-        rows: bits::wide(sf) - 2,
+        rows: rows_of_first(sf),
         spaced: true,
         codeword: 0,
         symbol: 0,
@@ -77,7 +90,7 @@ pub fn block_at(f: Frame, b: usize) -> Block
     if b == 0 {
         return first_block(f.sf);
     }
-    let first_rows = bits::wide(f.sf) - 2;
+    let first_rows = rows_of_first(f.sf);
     let rows = rows_of_later(f);
     let later = b - 1;
     Block {
@@ -85,10 +98,11 @@ pub fn block_at(f: Frame, b: usize) -> Block
         rows,
         spaced: f.low,
         codeword: first_rows + rows * later,
-        symbol: 8 + (bits::wide(f.cr) + 4) * later,
+        symbol: 8 + (usize::from(f.cr) + 4) * later,
     }
 }
 
+#[tactic(auto, unfolding(crate::specs::Layout::data_nibbles))]
 fn data_nibbles(length: usize, checked: bool) -> usize
     requires { length ≤ 255 }
     ensures { result ≡ data_nibbles length checked }
@@ -97,6 +111,7 @@ fn data_nibbles(length: usize, checked: bool) -> usize
 }
 
 // The nibbles of a frame with a payload of so many bytes.
+#[tactic(auto, unfolding(crate::specs::Layout::nibbles_of, crate::specs::Layout::data_nibbles))]
 pub fn nibbles_of(f: Frame, length: usize) -> usize
     requires { Valid f × (length ≤ 255) }
     ensures { result ≡ nibbles_of f length }
@@ -109,7 +124,7 @@ pub fn later_blocks(f: Frame, nibbles: usize) -> usize
     requires { Valid f × (nibbles ≤ 519) }
     ensures { result ≡ later_blocks f nibbles }
 {
-    let first_rows = bits::wide(f.sf) - 2;
+    let first_rows = rows_of_first(f.sf);
     let rows = rows_of_later(f);
     if nibbles <= first_rows {
         0
@@ -123,5 +138,5 @@ pub fn symbols_of(f: Frame, length: usize) -> usize
     requires { Valid f × (length ≤ 255) }
     ensures { result ≡ symbols_of f length }
 {
-    8 + (bits::wide(f.cr) + 4) * later_blocks(f, nibbles_of(f, length))
+    8 + (usize::from(f.cr) + 4) * later_blocks(f, nibbles_of(f, length))
 }

@@ -9,10 +9,11 @@ use native.Mathlib.Omega.{arith}
 use borrow.Author.Tests.{lt-ltb, le-ltb, ltb-false}
 use lib.Dec.{ltb}
 use lib.ListN.{length, length-append}
+use Rattle.std.specs.Prelude.{Ok, Err}
 use Rattle.bits.specs.Bit.{as_bit}
+use Rattle.lora.specs.Received.{Received}
 use Rattle.lora.specs.declared.Accepted.{Accepted}
-use Rattle.lora.specs.declared.Received.{Received}
-use Rattle.lora.specs.declared.Received.TheVariants.{Payload, Refused}
+use Rattle.refusal.specs.declared.Refusal.{Refusal}
 use Rattle.line.specs.Line.{decimal_in, decimal, field, hex_byte, hex, shown, line_of}
 
 -- the digits of a number in at most k + 1 are those in at most k + 2, where they suffice
@@ -88,7 +89,7 @@ shown-length (b ∷ l) = omega (arith, hex-length (b ∷ l))
 -- a line of a payload of at most 255 bytes
 pub line-length : (a : Received) (payload : List ℕ) → length payload ≤ 255 → length (line_of a payload) ≤ 640
 unfolding line_of
-line-length (Payload a) payload h =
+line-length (Ok a) payload h =
     simp length-append
     (omega (
       arith,
@@ -99,16 +100,16 @@ line-length (Payload a) payload h =
       field-length a.repairs,
       shown-length payload,
     ))
-line-length (Refused number place) payload h = simp length-append (omega (arith, field-length number, field-length place))
+line-length (Err e) payload h = simp length-append (omega (arith, field-length e.number, field-length e.place))
 
 -- the line of an answer that is known
-pub payload-line : {r : Received} {a : Accepted} {x y : ℕ} (payload : List ℕ) → r ≡ Payload a → x ≡ a.cr → y ≡ as_bit a.checked
+pub payload-line : {r : Received} {a : Accepted} {x y : ℕ} (payload : List ℕ) → r ≡ Ok a → x ≡ a.cr → y ≡ as_bit a.checked
     → line_of r payload
     ≡ (111 ∷ 107 ∷ []) ++ (field a.length ++ (field x ++ (field y ++ (field a.symbols ++ (field a.repairs ++ ((32 ∷ shown payload) ++ (10 ∷ [])))))))
 unfolding line_of
 payload-line payload e p q = rw (e, p, q)
 
-pub refused-line : {a : Received} {number place x : ℕ} (payload : List ℕ) → a ≡ Refused number place → x ≡ number
-    → line_of a payload ≡ (110 ∷ 111 ∷ []) ++ (field x ++ (field place ++ (10 ∷ [])))
+pub refused-line : {r : Received} {e : Refusal} {x : ℕ} (payload : List ℕ) → r ≡ Err e → x ≡ e.number
+    → line_of r payload ≡ (110 ∷ 111 ∷ []) ++ (field x ++ (field e.place ++ (10 ∷ [])))
 unfolding line_of
-refused-line payload e p = rw (e, p)
+refused-line payload is p = rw (is, p)

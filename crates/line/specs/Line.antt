@@ -1,10 +1,9 @@
 -- Document 01, "Reading program": the line that it prints.
 -- Assumes nothing.
-use Rattle.std.specs.Prelude.{cond, ℕ, zero, suc, ◌+◌, ◌/◌, ◌%◌, ltb}
+use Rattle.std.specs.Prelude.{cond, ℕ, zero, suc, ◌+◌, ◌/◌, ◌%◌, ltb, Ok, Err}
 use mathlib.Core.List.{List, [], ◌∷◌, ◌++◌, flat_map}
 use Rattle.bits.specs.Bit.{as_bit}
-use Rattle.lora.specs.declared.Received.{Received}
-use Rattle.lora.specs.declared.Received.TheVariants.{Payload, Refused}
+use Rattle.lora.specs.Received.{Received}
 
 -- a number in decimal digits, in at most so many
 unfoldable pub decimal_in : ℕ → ℕ → List ℕ
@@ -36,7 +35,7 @@ shown (b ∷ bytes) = hex (b ∷ bytes)
 
 -- ok, length, CR, flag, symbols used, repairs, payload; or no, number, place; byte 10 at the end
 unfoldable pub line_of : Received → List ℕ → List ℕ
-line_of (Payload a) payload =
+line_of (Ok a) payload =
     (111 ∷ 107 ∷ [])
     ++ (field a.length ++ (field a.cr ++ (field (as_bit a.checked) ++ (field a.symbols ++ (field a.repairs ++ ((32 ∷ shown payload) ++ (10 ∷ [])))))))
-line_of (Refused number place) payload = (110 ∷ 111 ∷ []) ++ (field number ++ (field place ++ (10 ∷ [])))
+line_of (Err e) payload = (110 ∷ 111 ∷ []) ++ (field e.number ++ (field e.place ++ (10 ∷ [])))

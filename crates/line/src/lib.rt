@@ -2,14 +2,13 @@
 #![tactic(auto)]
 
 ghost use Rattle.std.specs.Prelude.{◌≡◌, [], ◌∷◌, ◌++◌, ◌+◌, ◌*◌, ◌≤◌, ◌<◌, length};
-ghost use Rattle.bits.specs.Bit.{as_bit};
 ghost use Rattle.bits.specs.Tab.{placed};
 ghost use Rattle.line.specs.Line.{decimal, field, hex_digit, hex_byte, hex, shown, line_of};
 ghost use Rattle.put.specs.Put.{Put};
 
-use bits::wide;
 use lora::Received;
 use put::put;
+pub use put::put_words;
 
 // What came of a text. Of a capture: what read said of it, or the refusal of a text that is none. Of a wish: that its frame was
 // made, or that it was refused.
@@ -34,7 +33,7 @@ fn decimal_digit(n: usize) -> u8
     requires { n < 10 }
     ensures { result ≡ 48 + n }
 {
-    48 + n as u8
+    b'0' + n as u8
 }
 
 pub fn put_decimal(out: &mut [u8], at: usize, n: usize) -> usize
@@ -53,7 +52,7 @@ pub fn put_field(out: &mut [u8], at: usize, n: usize) -> usize
     requires { at + 21 ≤ length out.old }
     ensures { Put at (field n) out.old out.new result × (result ≤ at + 21) }
 {
-    let next = put(out, at, 32);
+    let next = put(out, at, b' ');
     put_decimal(out, next, n)
 }
 
@@ -61,7 +60,7 @@ fn hex_digit(d: u8) -> u8
     requires { d < 16 }
     ensures { result ≡ hex_digit d }
 {
-    if d < 10 { 48 + d } else { 55 + d }
+    if d < 10 { b'0' + d } else { b'A' + (d - 10) }
 }
 
 fn put_byte(out: &mut [u8], at: usize, b: u8) -> usize
@@ -77,8 +76,8 @@ fn put_hex(out: &mut [u8], at: usize, payload: &[u8]) -> usize
     ensures { Put at (hex payload.now) out.old out.new result }
 {
     let mut next = at;
-    for i in 0..payload.len() {
-        next = put_byte(out, next, payload[i]);
+    for &b in payload {
+        next = put_byte(out, next, b);
     }
     next
 }
@@ -87,8 +86,8 @@ fn put_shown(out: &mut [u8], at: usize, payload: &[u8]) -> usize
     requires { at + (2 * length payload.now + 1) ≤ length out.old }
     ensures { Put at (shown payload.now) out.old out.new result × (result ≤ at + (2 * length payload.now + 1)) }
 {
-    if payload.len() == 0 {
-        put(out, at, 45)
+    if payload.is_empty() {
+        put(out, at, b'-')
     } else {
         put_hex(out, at, payload)
     }
@@ -99,36 +98,9 @@ pub fn put_payload(out: &mut [u8], at: usize, payload: &[u8]) -> usize
     requires { at + (2 * length payload.now + 3) ≤ length out.old }
     ensures { Put at ((32 ∷ shown payload.now) ++ (10 ∷ [])) out.old out.new result }
 {
-    let after_space = put(out, at, 32);
+    let after_space = put(out, at, b' ');
     let after_payload = put_shown(out, after_space, payload);
-    put(out, after_payload, 10)
-}
-
-// Words, from a place on.
-pub fn put_words(out: &mut [u8], at: usize, words: &[u8]) -> usize
-    requires { at + length words.now ≤ length out.old }
-    ensures { Put at words.now out.old out.new result }
-{
-    let mut next = at;
-    for i in 0..words.len() {
-        next = put(out, next, words[i]);
-    }
-    next
-}
-
-// The first field, two letters.
-pub fn put_word(out: &mut [u8], a: u8, b: u8) -> usize
-    requires { 2 ≤ length out.old }
-    ensures { Put 0 (a ∷ b ∷ []) out.old out.new result }
-{
-    let next = put(out, 0, a);
-    put(out, next, b)
-}
-
-pub fn flag(b: bool) -> usize
-    ensures { result ≡ as_bit b }
-{
-    if b { 1 } else { 0 }
+    put(out, after_payload, b'\n')
 }
 
 // Writes the line into the lent buffer and answers its length.
@@ -137,20 +109,20 @@ pub fn write_line(answer: Received, payload: &[u8], out: &mut [u8]) -> usize
     ensures { (result ≡ length (line_of answer payload.now)) × (out.new ≡ placed 0 (line_of answer payload.now) out.old) }
 {
     match answer {
-        Received::Payload(a) => {
-            let after_ok = put_word(out, 111, 107);
+        Ok(a) => {
+            let after_ok = put_words(out, 0, b"ok");
             let after_length = put_field(out, after_ok, a.length);
-            let after_cr = put_field(out, after_length, wide(a.cr));
-            let after_flag = put_field(out, after_cr, flag(a.checked));
+            let after_cr = put_field(out, after_length, usize::from(a.cr));
+            let after_flag = put_field(out, after_cr, usize::from(a.checked));
             let after_symbols = put_field(out, after_flag, a.symbols);
             let after_repairs = put_field(out, after_symbols, a.repairs);
             put_payload(out, after_repairs, payload)
         }
-        Received::Refused { number, place } => {
-            let after_no = put_word(out, 110, 111);
-            let after_number = put_field(out, after_no, wide(number));
-            let after_place = put_field(out, after_number, place);
-            put(out, after_place, 10)
+        Err(e) => {
+            let after_no = put_words(out, 0, b"no");
+            let after_number = put_field(out, after_no, usize::from(e.number));
+            let after_place = put_field(out, after_number, e.place);
+            put(out, after_place, b'\n')
         }
     }
 }

@@ -15,7 +15,10 @@ use Rattle.panel.specs.Counts.{none, largest, counted, Whole}
 use Rattle.panel.proofs.CountsLaws.{whole-none, whole-more}
 use Rattle.panel.specs.declared.Counts.{Counts}
 use Rattle.lines.specs.Lines.{Job, frames, wishes, hurts, tallies, pieces_from, pieces, line_to, outcome_to, lines_to, counts_from, output_of, counts_of}
-use Rattle.lines.specs.Stream.{At, frame_at, wish_at, hurt_at, tally_at, start_of, job_of, run_at, line_at, outcome_at, Point, begin, next, fed, step, run, said, run_in, said_in, ended, last_line, last_said}
+use Rattle.lines.specs.declared.Piece.{Piece}
+use Rattle.lines.specs.declared.Piece.TheVariants.{Frame, Wish, Hurt, Tally}
+use Rattle.lines.specs.declared.Progress.{Progress}
+use Rattle.lines.specs.Stream.{start_of, job_of, run_at, line_at, outcome_at, begin, next, fed, step, run, said, run_in, said_in, ended, last_line, last_said}
 use Rattle.lines.proofs.StreamLaws.{run_at-none, run_at-append, run-append, said-append}
 
 -- the line and the outcome of a piece whose bytes were taken
@@ -32,11 +35,11 @@ outcome-is hurts bytes = outcome-capture bytes
 outcome-is tallies bytes = outcome-capture bytes
 
 -- a run's job stays: with bytes of the open piece, and with the next piece
-job-fed : (a : At) (bytes : List ℕ) → job_of (run_at a bytes) ≡ job_of a
-job-fed (frame_at s) bytes = refl
-job-fed (wish_at s) bytes = refl
-job-fed (hurt_at s) bytes = refl
-job-fed (tally_at s) bytes = refl
+job-fed : (a : Piece) (bytes : List ℕ) → job_of (run_at a bytes) ≡ job_of a
+job-fed (Frame s) bytes = refl
+job-fed (Wish s) bytes = refl
+job-fed (Hurt s) bytes = refl
+job-fed (Tally s) bytes = refl
 
 job-start : (job : Job) → job_of (start_of job) ≡ job
 job-start frames = refl
@@ -47,7 +50,7 @@ job-start tallies = refl
 job_is : (job : Job) (bytes : List ℕ) → job_of (run_at (start_of job) bytes) ≡ job
 job_is job bytes = job-fed (start_of job) bytes ∙ job-start job
 
-job-step : (p : Point) (b : ℕ) → job_of (step p b).piece ≡ job_of p.piece
+job-step : (p : Progress) (b : ℕ) → job_of (step p b).piece ≡ job_of p.piece
 unfolding step next fed
 job-step p b = by (eqb b 10) refl
   where
@@ -55,7 +58,7 @@ job-step p b = by (eqb b 10) refl
     by true e = rw e (job-start (job_of p.piece))
     by false e = rw e (job-fed p.piece (b ∷ []))
 
-job-run : (p : Point) (bs : List ℕ) → job_of (run p bs).piece ≡ job_of p.piece
+job-run : (p : Progress) (bs : List ℕ) → job_of (run p bs).piece ≡ job_of p.piece
 unfolding run
 job-run p [] = refl
 job-run p (b ∷ bs) = job-run (step p b) bs ∙ job-step p b
@@ -71,7 +74,7 @@ some_more [] b = refl
 some_more (a ∷ l) b = refl
 
 -- the point at which the bytes of the open piece are these
-unfoldable point : Job → List ℕ → Counts → Point
+unfoldable point : Job → List ℕ → Counts → Progress
 point job bytes counts = record { piece = run_at (start_of job) bytes; begun = some bytes; counts = counts }
 
 point-next : (job : Job) (bytes : List ℕ) (c : Counts) → next (point job bytes c) ≡ point job [] (counted c (outcome_to job bytes))
@@ -87,7 +90,7 @@ unfolding point
 point-line job bytes c = line-is job bytes
 
 -- what is said from a point on, with the last piece's line, and the counts at the end, are those of the pieces
-record Answers (job : Job) (p : Point) (c : Counts) (bs : List ℕ) (pieces : List (List ℕ)) : Type 0 where
+record Answers (job : Job) (p : Progress) (c : Counts) (bs : List ℕ) (pieces : List (List ℕ)) : Type 0 where
   lines : said p bs ++ last_line (run p bs) ≡ lines_to job pieces
   counts : (ended (run p bs)).counts ≡ counts_from c job pieces
 
@@ -127,12 +130,12 @@ output job input =
     sym (append_assoc (said (begin job) input) (last_line (run (begin job) input)) _) ∙ rw (a.lines, job-end job input, a.counts)
 
 -- chunks, one after the other, are their input
-run-chunks : (p : Point) (chunks : List (List ℕ)) → run_in p chunks ≡ run p (flatten chunks)
+run-chunks : (p : Progress) (chunks : List (List ℕ)) → run_in p chunks ≡ run p (flatten chunks)
 unfolding run_in flatten run
 run-chunks p [] = refl
 run-chunks p (chunk ∷ chunks) = run-chunks (run p chunk) chunks ∙ run-append p chunk (flatten chunks)
 
-said-chunks : (p : Point) (chunks : List (List ℕ)) → said_in p chunks ≡ said p (flatten chunks)
+said-chunks : (p : Progress) (chunks : List (List ℕ)) → said_in p chunks ≡ said p (flatten chunks)
 unfolding said_in flatten said
 said-chunks p [] = refl
 said-chunks p (chunk ∷ chunks) = ap (λ (l : List ℕ). said p chunk ++ l) (said-chunks (run p chunk) chunks) ∙ said-append p chunk (flatten chunks)

@@ -8,6 +8,7 @@ use native.Mathlib.Omega.{arith}
 use lib.Dec.{leb}
 use lib.ListN.{length, get_or}
 use borrow.Author.Tests.{leb-true, leb-false, lt-leb, le-leb}
+use Rattle.std.specs.Prelude.{Result, Ok, Err}
 use Rattle.bits.specs.Check.{check}
 use Rattle.layout.specs.Layout.{valid_sf, valid_cr, nibbles_of, symbols_of}
 use Rattle.layout.specs.Ranges.{Valid}
@@ -15,25 +16,23 @@ use Rattle.layout.specs.declared.Frame.{Frame}
 use Rattle.lora.specs.Count.{frame_of, count_of}
 use Rattle.lora.specs.Head.{head_of}
 use Rattle.lora.specs.Read.{over_in_frame, unreadable_in_data, sum_holds, accepted_of, body_of, frame_said, onward, agreed_on, read_of, bytes_after, hurts_after}
+use Rattle.lora.specs.Received.{Received}
 use Rattle.lora.specs.Stages.{bytes_read, hurts_read}
 use Rattle.lora.specs.declared.Accepted.{Accepted}
-use Rattle.lora.specs.declared.Counted.{Counted}
-use Rattle.lora.specs.declared.Counted.TheVariants.{Symbols, Refused as CountRefused}
+use Rattle.header.specs.declared.Header.{Header}
 use Rattle.lora.specs.declared.Expected.{Expected}
 use Rattle.lora.specs.declared.Expected.TheVariants.{Explicit, Agreed}
-use Rattle.lora.specs.declared.Heading.{Heading}
-use Rattle.lora.specs.declared.Heading.TheVariants.{Says, Refused as HeadRefused}
 use Rattle.lora.specs.declared.Kind.TheVariants as kind
-use Rattle.lora.specs.declared.Received.{Received}
-use Rattle.lora.specs.declared.Received.TheVariants.{Payload, Refused}
 use Rattle.lora.specs.declared.Settings.{Settings}
+use Rattle.refusal.specs.Refusal.{refuse}
+use Rattle.refusal.specs.declared.Refusal.{Refusal}
 use Rattle.lora.proofs.CountLaws.{counted}
 use Rattle.lora.proofs.HeadLaws.{head-sound}
-use Rattle.lora.proofs.ReadLaws.{all-below}
+use Rattle.lora.proofs.ReadLaws.{all-below, said_valid}
 
 -- how length, code rate and checksum flag are known: head says them, or they were agreed
 abbrev pub Known : Expected → ℕ → List ℕ → Accepted → Type 0
-Known Explicit sf symbols a = head_of sf symbols ≡ Says (record { length = a.length; cr = a.cr; checked = a.checked })
+Known Explicit sf symbols a = head_of sf symbols ≡ Ok (record { length = a.length; cr = a.cr; checked = a.checked })
 Known (Agreed len cr flag) sf symbols a = (a.length ≡ len) × (a.cr ≡ cr) × (a.checked ≡ flag)
 
 -- where read accepts: the payload has room and so have the marks, the frame is valid and below 2^SF, and what is answered is what the
@@ -48,11 +47,11 @@ pub record Accepts (sf : ℕ) (low : Bool) (expected : Expected) (symbols : List
   pub is : a ≡ accepted_of (frame_said sf low expected a.cr a.checked) symbols a.length
 
 -- what is answered of a frame whose shape and length are known, by the checks
-pub body-cases : (F : Frame) (symbols : List ℕ) (room marks len : ℕ) (P : Received → Type 0) → P (Refused 4 len) → P (Refused 4 (symbols_of F len))
-    → P (Refused 5 (symbols_of F len)) → P (Refused 6 (over_in_frame F symbols len))
-    → (unreadable_in_data F symbols len < nibbles_of F len → P (Refused 7 (unreadable_in_data F symbols len)))
-    → P (Refused 12 0)
-    → (len ≤ room → symbols_of F len ≤ marks → symbols_of F len ≤ over_in_frame F symbols len → P (Payload (accepted_of F symbols len)))
+pub body-cases : (F : Frame) (symbols : List ℕ) (room marks len : ℕ) (P : Received → Type 0) → P (refuse 4 len) → P (refuse 4 (symbols_of F len))
+    → P (refuse 5 (symbols_of F len)) → P (refuse 6 (over_in_frame F symbols len))
+    → (unreadable_in_data F symbols len < nibbles_of F len → P (refuse 7 (unreadable_in_data F symbols len)))
+    → P (refuse 12 0)
+    → (len ≤ room → symbols_of F len ≤ marks → symbols_of F len ≤ over_in_frame F symbols len → P (Ok (accepted_of F symbols len)))
     → P (body_of F symbols room marks len)
 unfolding body_of
 body-cases F symbols room marks len P four lists five six seven twelve payload =
@@ -60,8 +59,8 @@ body-cases F symbols room marks len P four lists five six seven twelve payload =
     (leb (nibbles_of F len) (unreadable_in_data F symbols len)) (sum_holds F symbols len) refl refl refl refl
   where
     by : (t s u v w x : Bool) → leb len room ≡ t → leb (symbols_of F len) marks ≡ s → leb (symbols_of F len) (over_in_frame F symbols len) ≡ v → leb (nibbles_of F len) (unreadable_in_data F symbols len) ≡ w
-        → P (check t (Refused 4 len) (check s (Refused 4 (symbols_of F len)) (check u (Refused 5 (symbols_of F len)) (check v (Refused 6 (over_in_frame F symbols len))
-        (check w (Refused 7 (unreadable_in_data F symbols len)) (check x (Refused 12 0) (Payload (accepted_of F symbols len))))))))
+        → P (check t (refuse 4 len) (check s (refuse 4 (symbols_of F len)) (check u (refuse 5 (symbols_of F len)) (check v (refuse 6 (over_in_frame F symbols len))
+        (check w (refuse 7 (unreadable_in_data F symbols len)) (check x (refuse 12 0) (Ok (accepted_of F symbols len))))))))
     by true true true true true true p o n q =
         payload (leb-true len room p) (leb-true (symbols_of F len) marks o) (leb-true (symbols_of F len) (over_in_frame F symbols len) n)
     by true true true true true false p o n q = twelve
@@ -78,46 +77,46 @@ record BodyAccepts (F : Frame) (symbols : List ℕ) (room marks len : ℕ) (a : 
   lists : symbols_of F len ≤ marks
   below : (t : ℕ) → t < symbols_of F len → get_or symbols t 0 < 2 ^ F.sf
 
-body-accepts : (F : Frame) (symbols : List ℕ) (room marks len : ℕ) (a : Accepted) → body_of F symbols room marks len ≡ Payload a
+body-accepts : (F : Frame) (symbols : List ℕ) (room marks len : ℕ) (a : Accepted) → body_of F symbols room marks len ≡ Ok a
     → BodyAccepts F symbols room marks len a
 body-accepts F symbols room marks len a =
-    body-cases F symbols room marks len (λ r. r ≡ Payload a → BodyAccepts F symbols room marks len a) other other other other
+    body-cases F symbols room marks len (λ r. r ≡ Ok a → BodyAccepts F symbols room marks len a) other other other other
     (λ l. other) other (λ fits lists over e. record { same = cc; fits = fits; lists = lists; below = all-below F symbols len over })
   where
-    other : {number place : ℕ} → Refused number place ≡ Payload a → BodyAccepts F symbols room marks len a
+    other : {refusal : Refusal} → Err refusal ≡ Ok a → BodyAccepts F symbols room marks len a
     other e = absurd (let z : ◌≡◌ {A = ℕ} 0 1 = cc in omega arith)
 
-explicit-accepts : (sf : ℕ) (low : Bool) (symbols : List ℕ) (room marks : ℕ) (a : Accepted) → read_of sf low Explicit symbols room marks ≡ Payload a
+explicit-accepts : (sf : ℕ) (low : Bool) (symbols : List ℕ) (room marks : ℕ) (a : Accepted) → read_of sf low Explicit symbols room marks ≡ Ok a
     → Accepts sf low Explicit symbols room marks a
 unfolding read_of accepted_of
 explicit-accepts sf low symbols room marks a e = one (head_of sf symbols) refl e
   where
-    one : (h : Heading) → head_of sf symbols ≡ h → onward h sf low symbols room marks ≡ Payload a → Accepts sf low Explicit symbols room marks a
-    one (HeadRefused n p) f g = absurd (let z : ◌≡◌ {A = ℕ} 0 1 = cc in omega arith)
-    one (Says h) f g =
+    one : (h : Result Header Refusal) → head_of sf symbols ≡ h → onward h sf low symbols room marks ≡ Ok a → Accepts sf low Explicit symbols room marks a
+    one (Err refusal) f g = absurd (let z : ◌≡◌ {A = ℕ} 0 1 = cc in omega arith)
+    one (Ok h) f g =
         let b = body-accepts (frame_said sf low Explicit h.cr h.checked) symbols room marks h.length a g in
         let k = head-sound sf symbols h f in
         rw (← b.same) (record {
           known = f;
           fits = b.fits;
           lists = b.lists;
-          valid = record { sf-low = k.sf-low; sf-high = k.sf-high; cr-low = k.cr-low; cr-high = k.cr-high; header-high = omega arith };
+          valid = said_valid sf low h k;
           short = k.short;
           below = b.below;
           is = refl;
         })
 
 agreed-accepts : (sf : ℕ) (low : Bool) (len cr : ℕ) (flag : Bool) (symbols : List ℕ) (room marks : ℕ) (a : Accepted)
-    → read_of sf low (Agreed len cr flag) symbols room marks ≡ Payload a → Accepts sf low (Agreed len cr flag) symbols room marks a
+    → read_of sf low (Agreed len cr flag) symbols room marks ≡ Ok a → Accepts sf low (Agreed len cr flag) symbols room marks a
 unfolding read_of accepted_of
 agreed-accepts sf low len cr flag symbols room marks a e = one (count_of s len) refl e
   where
     s : Settings
     s = record { sf = sf; low = low; kind = kind.Agreed len cr flag }
 
-    one : (n : Counted) → count_of s len ≡ n → agreed_on n (frame_of s) len symbols room marks ≡ Payload a → Accepts sf low (Agreed len cr flag) symbols room marks a
-    one (CountRefused n p) f g = absurd (let z : ◌≡◌ {A = ℕ} 0 1 = cc in omega arith)
-    one (Symbols n) f g =
+    one : (n : Result ℕ Refusal) → count_of s len ≡ n → agreed_on n (frame_of s) len symbols room marks ≡ Ok a → Accepts sf low (Agreed len cr flag) symbols room marks a
+    one (Err refusal) f g = absurd (let z : ◌≡◌ {A = ℕ} 0 1 = cc in omega arith)
+    one (Ok n) f g =
         let b = body-accepts (frame_of s) symbols room marks len a g in
         let k = counted s len n f in
         rw (← b.same) (record {
@@ -131,7 +130,7 @@ agreed-accepts sf low len cr flag symbols room marks a e = one (count_of s len) 
         })
 
 pub accepts : (sf : ℕ) (low : Bool) (expected : Expected) (symbols : List ℕ) (room marks : ℕ) (a : Accepted)
-    → read_of sf low expected symbols room marks ≡ Payload a → Accepts sf low expected symbols room marks a
+    → read_of sf low expected symbols room marks ≡ Ok a → Accepts sf low expected symbols room marks a
 accepts sf low Explicit symbols room marks a e = explicit-accepts sf low symbols room marks a e
 accepts sf low (Agreed len cr flag) symbols room marks a e = agreed-accepts sf low len cr flag symbols room marks a e
 
@@ -140,28 +139,28 @@ module _ (sf : ℕ) (low : Bool) (expected : Expected) (cr : ℕ) (flag : Bool) 
   pub bytes-said : (r : Received) → r ≡ body_of (frame_said sf low expected cr flag) symbols room marks len
       → bytes_read r (frame_said sf low expected cr flag) symbols len old ≡ bytes_after r sf low expected symbols old
   unfolding accepted_of
-  bytes-said (Refused number place) e = refl
-  bytes-said (Payload a) e = rw (← (body-accepts (frame_said sf low expected cr flag) symbols room marks len a (sym e)).same)
+  bytes-said (Err refusal) e = refl
+  bytes-said (Ok a) e = rw (← (body-accepts (frame_said sf low expected cr flag) symbols room marks len a (sym e)).same)
 
   pub hurts-said : (r : Received) → r ≡ body_of (frame_said sf low expected cr flag) symbols room marks len
       → hurts_read r (frame_said sf low expected cr flag) symbols len old ≡ hurts_after r sf low expected symbols old
   unfolding accepted_of
-  hurts-said (Refused number place) e = refl
-  hurts-said (Payload a) e = rw (← (body-accepts (frame_said sf low expected cr flag) symbols room marks len a (sym e)).same)
+  hurts-said (Err refusal) e = refl
+  hurts-said (Ok a) e = rw (← (body-accepts (frame_said sf low expected cr flag) symbols room marks len a (sym e)).same)
 
 -- a spreading factor above 12 is refused with 1
-pub sf-refused : (sf : ℕ) (low : Bool) (expected : Expected) (symbols : List ℕ) (room marks : ℕ) → 12 < sf → read_of sf low expected symbols room marks ≡ Refused 1 0
+pub sf-refused : (sf : ℕ) (low : Bool) (expected : Expected) (symbols : List ℕ) (room marks : ℕ) → 12 < sf → read_of sf low expected symbols room marks ≡ refuse 1 0
 unfolding read_of head_of count_of valid_sf
 sf-refused sf low Explicit symbols room marks h = rw (le-leb 7 sf (omega arith), lt-leb sf 12 h)
 sf-refused sf low (Agreed len cr flag) symbols room marks h = rw (le-leb 7 sf (omega arith), lt-leb sf 12 h)
 
 -- and an agreed code rate above 4 with 1 or 2
 pub cr-refused : (sf : ℕ) (low : Bool) (len cr : ℕ) (flag : Bool) (symbols : List ℕ) (room marks : ℕ) → 4 < cr
-    → read_of sf low (Agreed len cr flag) symbols room marks ≡ check (valid_sf sf) (Refused 1 0) (Refused 2 0)
+    → read_of sf low (Agreed len cr flag) symbols room marks ≡ check (valid_sf sf) (refuse 1 0) (refuse 2 0)
 unfolding read_of count_of valid_cr
 cr-refused sf low len cr flag symbols room marks h = rw (le-leb 1 cr (omega arith), lt-leb cr 4 h) (by (valid_sf sf))
   where
-    by : (t : Bool) → agreed_on (check t (CountRefused 1 0) (CountRefused 2 0)) (frame_of (record { sf = sf; low = low; kind = kind.Agreed len cr flag })) len symbols room marks
-        ≡ check t (Refused 1 0) (Refused 2 0)
+    by : (t : Bool) → agreed_on (check t (refuse 1 0) (refuse 2 0)) (frame_of (record { sf = sf; low = low; kind = kind.Agreed len cr flag })) len symbols room marks
+        ≡ check t (refuse 1 0) (refuse 2 0)
     by true = refl
     by false = refl

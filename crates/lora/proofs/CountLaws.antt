@@ -8,6 +8,7 @@ use native.Mathlib.Omega.{arith}
 use lib.Dec.{leb, eqb}
 use lib.ListN.{length}
 use borrow.Author.Tests.{leb-true, eqb-true}
+use Rattle.std.specs.Prelude.{Result, Ok, Err}
 use Rattle.bits.specs.Check.{check}
 use Rattle.layout.specs.Layout.{valid_sf, valid_cr, symbols_of}
 use Rattle.layout.specs.Ranges.{Valid}
@@ -17,8 +18,8 @@ use Rattle.lora.specs.Count.{cr_of, expected_of, header_length, frame_of, takes,
 use Rattle.lora.specs.declared.Kind.{Kind}
 use Rattle.lora.specs.declared.Kind.TheVariants.{Explicit, Agreed}
 use Rattle.lora.specs.declared.Settings.{Settings}
-use Rattle.lora.specs.declared.Counted.{Counted}
-use Rattle.lora.specs.declared.Counted.TheVariants.{Symbols, Refused}
+use Rattle.refusal.specs.Refusal.{refuse}
+use Rattle.refusal.specs.declared.Refusal.{Refusal}
 
 -- valid settings
 pub sf-valid : (sf : ℕ) → valid_sf sf ≡ true → (7 ≤ sf) × (sf ≤ 12)
@@ -56,18 +57,18 @@ takes-agreed agreed cr flag len e = eqb-true len agreed ((and-eq-true_iff (leb l
 
 -- where count answers a number, the settings and the length are valid and it is the frame's
 pub record Countable (s : Settings) (len count : ℕ) : Type 0 where
-  pub said : count_of s len ≡ Symbols count
+  pub said : count_of s len ≡ Ok count
   pub settings : Valid (frame_of s)
   pub taken : takes s.kind len ≡ true
   pub short : len ≤ 255
   pub is : count ≡ symbols_of (frame_of s) len
 
-pub counted : (s : Settings) (len count : ℕ) → count_of s len ≡ Symbols count → Countable s len count
+pub counted : (s : Settings) (len count : ℕ) → count_of s len ≡ Ok count → Countable s len count
 unfolding count_of
 counted s len count e = one (valid_sf s.sf) (valid_cr (cr_of s.kind)) (takes s.kind len) refl refl refl e
   where
     one : (a b c : Bool) → valid_sf s.sf ≡ a → valid_cr (cr_of s.kind) ≡ b → takes s.kind len ≡ c
-        → check a (Refused 1 0) (check b (Refused 2 0) (check c (Refused 3 0) (Symbols (symbols_of (frame_of s) len)))) ≡ Symbols count
+        → check a (refuse 1 0) (check b (refuse 2 0) (check c (refuse 3 0) (Ok (symbols_of (frame_of s) len)))) ≡ Ok count
         → Countable s len count
     one true true true p q r f = record { said = e; settings = valid s p q; taken = r; short = takes-short s.kind len r; is = cc }
     one true true false p q r f = absurd (let z : ◌≡◌ {A = ℕ} 0 1 = cc in omega arith)
@@ -81,16 +82,16 @@ bandwidth-positive zero e = absurd (let z : ◌≡◌ {A = ℕ} 0 1 = cc in omeg
 bandwidth-positive (suc k) e = omega arith
 
 -- where code answers a number, it is what count answers, and the lent list has room for it
-pub coded : (s : Settings) (payload : List ℕ) (room count : ℕ) → code_of s payload room ≡ Symbols count → Countable s (length payload) count × (count ≤ room)
+pub coded : (s : Settings) (payload : List ℕ) (room count : ℕ) → code_of s payload room ≡ Ok count → Countable s (length payload) count × (count ≤ room)
 unfolding code_of
 coded s payload room count e = one (count_of s (length payload)) refl e
   where
-    two : (n : ℕ) (t : Bool) → leb n room ≡ t → check t (Refused 4 n) (Symbols n) ≡ Symbols count → (n ≡ count) × (n ≤ room)
+    two : (n : ℕ) (t : Bool) → leb n room ≡ t → check t (refuse 4 n) (Ok n) ≡ Ok count → (n ≡ count) × (n ≤ room)
     two n true f g = (cc, leb-true n room f)
     two n false f g = absurd (let z : ◌≡◌ {A = ℕ} 0 1 = cc in omega arith)
 
-    one : (r : Counted) → count_of s (length payload) ≡ r → fitting r room ≡ Symbols count → Countable s (length payload) count × (count ≤ room)
-    one (Refused n p) f g = absurd (let z : ◌≡◌ {A = ℕ} 0 1 = cc in omega arith)
-    one (Symbols n) f g =
+    one : (r : Result ℕ Refusal) → count_of s (length payload) ≡ r → fitting r room ≡ Ok count → Countable s (length payload) count × (count ≤ room)
+    one (Err e) f g = absurd (let z : ◌≡◌ {A = ℕ} 0 1 = cc in omega arith)
+    one (Ok n) f g =
         let (same, le) = two n (leb n room) refl g in
-        (counted s (length payload) count (f ∙ ap Symbols same), omega arith)
+        (counted s (length payload) count (f ∙ ap Ok same), omega arith)

@@ -3,23 +3,24 @@
 use mathlib.Core.Path.{◌≡◌, refl, sym, ap, ◌∙◌}
 use mathlib.Core.Bool.{Bool, true, false}
 use mathlib.Core.List.{List, [], ◌∷◌}
-use Prim.Native.Nat.{ℕ, ◌+◌, ◌<◌, ◌≤◌}
+use Prim.Native.Nat.{ℕ, ◌+◌, ◌^◌, ◌<◌, ◌≤◌}
 use native.Mathlib.Omega.{arith}
 use lib.Dec.{leb}
-use lib.ListN.{length, get_or}
+use lib.ListN.{length, get_or, take}
+use lib.Seq.{length-take-le, get_or-take}
 use borrow.Author.Tests.{lt-leb, le-leb, leb-false}
+use Rattle.std.specs.Prelude.{Option, None, Some, MatchOption, Result, Ok, Err}
+use Rattle.std.specs.List.{AllWithin, HoldsAt}
 use Rattle.bits.specs.Check.{check}
 use Rattle.bits.specs.Search.{how_many}
 use Rattle.bits.specs.Tab.{tab}
-use Rattle.bits.proofs.Searches.{first_range, first_cong, how_many-cong}
+use Rattle.bits.proofs.Searches.{first_range, first_cong, first-is, first-none, how_many-cong}
 use Rattle.bits.proofs.Tabs.{tab-cong}
 use Rattle.codeword.specs.Codeword.{nibble_of, is_repaired, is_unreadable}
 use Rattle.codeword.specs.Found.{Found}
 use Rattle.codeword.proofs.CodeLaws.{nibble-lt}
 use Rattle.header.specs.Header.{verdict_of}
 use Rattle.header.specs.declared.Header.{Header}
-use Rattle.header.specs.declared.Verdict.{Verdict}
-use Rattle.header.specs.declared.Verdict.TheVariants.{Says as HeaderSays, Refused as HeaderRefused}
 use Rattle.header.proofs.HeaderLaws.{says_range}
 use Rattle.layout.specs.Layout.{valid_sf, first_block}
 use Rattle.layout.specs.Ranges.{Valid}
@@ -28,10 +29,33 @@ use Rattle.reading.specs.Found.{found_at, unreadable_at, repaired_at, nibble_at,
 use Rattle.reading.specs.Stages.{grid_of_symbols, rows_from, Walk}
 use Rattle.reading.proofs.ReadingLaws.{found-in-first, walk-nibbles}
 use Rattle.reading.proofs.RowLaws.{row-in-first}
-use Rattle.lora.specs.Head.{first_over, header_found, unreadable_in_header, said, header_of, head_of}
-use Rattle.lora.specs.declared.Heading.{Heading}
-use Rattle.lora.specs.declared.Heading.TheVariants.{Says, Refused}
+use Rattle.lora.specs.Head.{is_over, first_over, header_found, unreadable_in_header, header_of, head_of}
+use Rattle.lora.specs.Stages.{FirstOver}
+use Rattle.refusal.specs.Refusal.{refuse}
+use Rattle.refusal.specs.declared.Refusal.{Refusal}
 use Rattle.lora.proofs.CountLaws.{sf-valid}
+
+-- a search among symbols, of which m or more is too much
+pub over-is : (sf m : ℕ) (symbols : List ℕ) (r : Option ℕ) → m ≡ 2 ^ sf
+    → MatchOption r (AllWithin (λ x. x < m) symbols 0 (length symbols)) (λ i. (i < length symbols) × HoldsAt (λ x. m ≤ x) symbols i × AllWithin (λ x. x < m) symbols 0 i)
+    → FirstOver sf symbols (length symbols) r
+unfolding first_over is_over
+over-is sf m symbols None e below =
+    omega (arith, first-none (is_over sf symbols) (length symbols) 0 (λ k a b. lt-leb _ _ (rw e at (below k 0 a (omega arith)))))
+over-is sf m symbols (Some i) e (here, at, before) =
+    (first-is (is_over sf symbols) (length symbols) 0 i (omega arith) (omega arith) (le-leb _ _ (rw e at (at 0))) (λ k a b. lt-leb _ _ (rw e at (before k 0 a b))), here)
+
+-- a search among the first n
+pub over-front : (sf : ℕ) (symbols : List ℕ) (n : ℕ) (r : Option ℕ) → n ≤ length symbols → FirstOver sf (take n symbols) (length (take n symbols)) r → FirstOver sf symbols n r
+unfolding first_over is_over
+over-front sf symbols n r h = one r
+  where
+    same : first_over sf (take n symbols) (length (take n symbols)) 0 ≡ first_over sf symbols n 0
+    same = rw (length-take-le n symbols h) (first_cong (is_over sf (take n symbols)) (is_over sf symbols) n 0 (λ k a b. ap (λ (x : ℕ). leb (2 ^ sf) x) (get_or-take n symbols k 0 (omega arith))))
+
+    one : (r : Option ℕ) → FirstOver sf (take n symbols) (length (take n symbols)) r → FirstOver sf symbols n r
+    one None e = sym same ∙ e ∙ length-take-le n symbols h
+    one (Some t) (e, l) = (sym same ∙ e, rw (length-take-le n symbols h) at l)
 
 -- where head says a header: the spreading factor, the length and the rate are in range
 pub record Heads (sf : ℕ) (h : Header) : Type 0 where
@@ -48,39 +72,33 @@ module _ (sf : ℕ) (symbols : List ℕ) where
   header-small i = nibble-lt _ _
 
   -- what the header says is in range
-  said-range : (h : Header) → said (verdict_of (tab 5 (nibble_at (header_found sf symbols)))) ≡ Says h → (h.length < 256) × (1 ≤ h.cr) × (h.cr ≤ 4)
-  said-range h e = at (verdict_of (tab 5 (nibble_at (header_found sf symbols)))) refl e
-    where
-      at : (v : Verdict) → verdict_of (tab 5 (nibble_at (header_found sf symbols))) ≡ v → said v ≡ Says h → (h.length < 256) × (1 ≤ h.cr) × (h.cr ≤ 4)
-      at (HeaderRefused n) p q = absurd (let z : ◌≡◌ {A = ℕ} 0 1 = cc in omega arith)
-      at (HeaderSays k) p q =
-          let same : k ≡ h = cc in
-          says_range (nibble_at (header_found sf symbols)) h header-small (p ∙ ap HeaderSays same)
+  said-range : (h : Header) → verdict_of (tab 5 (nibble_at (header_found sf symbols))) ≡ Ok h → (h.length < 256) × (1 ≤ h.cr) × (h.cr ≤ 4)
+  said-range h e = says_range (nibble_at (header_found sf symbols)) h header-small e
 
   -- what head answers, by its checks
-  pub head-cases : (P : Heading → Type 0) → P (Refused 1 0) → P (Refused 5 8) → P (Refused 6 (first_over sf symbols 8 0))
-      → (7 ≤ sf → unreadable_in_header (header_found sf symbols) < 5 → P (Refused 7 (unreadable_in_header (header_found sf symbols))))
-      → (7 ≤ sf → sf ≤ 12 → P (said (verdict_of (tab 5 (nibble_at (header_found sf symbols)))))) → P (head_of sf symbols)
+  pub head-cases : (P : Result Header Refusal → Type 0) → P (refuse 1 0) → P (refuse 5 8) → P (refuse 6 (first_over sf symbols 8 0))
+      → (7 ≤ sf → unreadable_in_header (header_found sf symbols) < 5 → P (refuse 7 (unreadable_in_header (header_found sf symbols))))
+      → (7 ≤ sf → sf ≤ 12 → P (verdict_of (tab 5 (nibble_at (header_found sf symbols))))) → P (head_of sf symbols)
   unfolding head_of header_of
   head-cases P one five six seven header =
       by (valid_sf sf) (leb 8 (length symbols)) (leb 8 (first_over sf symbols 8 0)) (leb 5 (unreadable_in_header (header_found sf symbols))) refl refl
     where
       by : (a b c d : Bool) → valid_sf sf ≡ a → leb 5 (unreadable_in_header (header_found sf symbols)) ≡ d
-          → P (check a (Refused 1 0) (check b (Refused 5 8) (check c (Refused 6 (first_over sf symbols 8 0))
-          (check d (Refused 7 (unreadable_in_header (header_found sf symbols))) (said (verdict_of (tab 5 (nibble_at (header_found sf symbols)))))))))
+          → P (check a (refuse 1 0) (check b (refuse 5 8) (check c (refuse 6 (first_over sf symbols 8 0))
+          (check d (refuse 7 (unreadable_in_header (header_found sf symbols))) (verdict_of (tab 5 (nibble_at (header_found sf symbols))))))))
       by true true true true p q = let (low, high) = sf-valid sf p in header low high
       by true true true false p q = seven (sf-valid sf p).0 (leb-false 5 (unreadable_in_header (header_found sf symbols)) q)
       by true true false d p q = six
       by true false c d p q = five
       by false b c d p q = one
 
-  pub head-sound : (h : Header) → head_of sf symbols ≡ Says h → Heads sf h
+  pub head-sound : (h : Header) → head_of sf symbols ≡ Ok h → Heads sf h
   head-sound h =
-      head-cases (λ r. r ≡ Says h → Heads sf h) other other other (λ low l. other) λ low high e.
+      head-cases (λ r. r ≡ Ok h → Heads sf h) other other other (λ low l. other) λ low high e.
       let (x, y, z) = said-range h e in
       record { sf-low = low; sf-high = high; short = omega arith; cr-low = y; cr-high = z }
     where
-      other : {number place : ℕ} → Refused number place ≡ Says h → Heads sf h
+      other : {refusal : Refusal} → Err refusal ≡ Ok h → Heads sf h
       other e = absurd (let z : ◌≡◌ {A = ℕ} 0 1 = cc in omega arith)
 
 -- the header's codewords are the frame's first five, whatever the rest of the frame is like
@@ -101,7 +119,7 @@ module _ (found : ℕ → Found) {old new : List ℕ} {end repairs : ℕ} (w : W
   unreadable-is = sym w.ends
 
   -- up to one that can't be read
-  pub header_refused : end < 5 → header_of found ≡ Refused 7 end
+  pub header_refused : end < 5 → header_of found ≡ refuse 7 end
   unfolding header_of
   header_refused l = rw (unreadable-is, lt-leb 5 end l)
 
@@ -117,7 +135,7 @@ module _ (found : ℕ → Found) {old new : List ℕ} {end repairs : ℕ} (w : W
         rw (header-nibble 0 (omega arith), header-nibble 1 (omega arith), header-nibble 2 (omega arith), header-nibble 3 (omega arith), header-nibble 4 (omega arith))
 
     -- all of them: what their nibbles say
-    pub header-said : header_of found ≡ said (verdict_of (get_or new 0 0 ∷ get_or new 1 0 ∷ get_or new 2 0 ∷ get_or new 3 0 ∷ get_or new 4 0 ∷ []))
+    pub header-said : header_of found ≡ verdict_of (get_or new 0 0 ∷ get_or new 1 0 ∷ get_or new 2 0 ∷ get_or new 3 0 ∷ get_or new 4 0 ∷ [])
     unfolding header_of
     header-said = rw (unreadable-is, le-leb 5 end all, header-nibbles)
 
@@ -137,3 +155,8 @@ grid-found sf symbols h e i l = let z : 0 + i ≡ i = omega arith in rw (e, z) (
 pub grid-repairs : (sf : ℕ) (symbols : List ℕ) {grid : List (List Bool)} → 7 ≤ sf → grid ≡ grid_of_symbols (first_block sf) symbols
     → how_many (repaired_at (rows_from 4 grid 0)) 5 ≡ how_many (repaired_at (header_found sf symbols)) 5
 grid-repairs sf symbols h e = how_many-cong _ _ 5 (λ i l. ap is_repaired (grid-found sf symbols h e i l))
+
+-- so it says the header that head finds
+pub grid-header : (sf : ℕ) (symbols : List ℕ) {grid : List (List Bool)} → 7 ≤ sf → grid ≡ grid_of_symbols (first_block sf) symbols
+    → header_of (rows_from 4 grid 0) ≡ header_of (header_found sf symbols)
+grid-header sf symbols h e = header-same _ _ (grid-found sf symbols h e)

@@ -11,10 +11,11 @@ use lib.IntN.{ℤ}
 use lib.ListN.{length, get_or, take, drop}
 use lib.Seq.{take_at, length-take-le, get_or-take}
 use borrow.Author.Tests.{lt-leb, le-leb, leb-false}
+use Rattle.std.specs.Prelude.{Ok}
 use Rattle.bits.specs.Search.{first, how_many}
 use Rattle.bits.specs.Tab.{tab, over, blank}
 use Rattle.bits.proofs.Searches.{first_range, first-none, first-before, first-shift, how_many-add, how_many-cong, how_many-le}
-use Rattle.bits.proofs.Tabs.{length-blank, length-tab, get_d_over, over-cong}
+use Rattle.bits.proofs.Tabs.{length-blank, length-tab, over-cong, tab-cong, tab-get_or}
 use Rattle.checksum.specs.Checksum.{checksum}
 use Rattle.codeword.specs.Codeword.{is_repaired}
 use Rattle.drift.specs.Drift.{drift_of}
@@ -22,16 +23,19 @@ use Rattle.header.specs.declared.Header.{Header}
 use Rattle.layout.specs.Layout.{first_block, data_nibbles, nibbles_of, symbols_of}
 use Rattle.layout.specs.Ranges.{Valid}
 use Rattle.layout.specs.declared.Frame.{Frame}
+use Rattle.layout.proofs.LayoutLaws.{data-le, symbols-le}
 use Rattle.reading.specs.Found.{found_at, unreadable_at, repaired_at}
 use Rattle.reading.specs.Payload.{payload_byte, sent_checksum}
-use Rattle.reading.specs.Stages.{grid_of_symbols, read_row, data_found, listed, Walk, flips, Marked}
+use Rattle.reading.specs.Stages.{grid_of_symbols, read_row, data_found, listed, Walk, Marked}
 use Rattle.reading.proofs.HurtLaws.{flips-none}
 use Rattle.reading.proofs.ReadingLaws.{blank-small, nibble-data-lt, walk-nibbles, walk-small, payload-cong, checksum-cong}
-use Rattle.lora.specs.Head.{is_over, first_over, header_found}
+use Rattle.lora.specs.Head.{is_over, first_over}
 use Rattle.lora.specs.Read.{over_in_frame, unreadable_in_data, nibble_found, byte_found, sum_holds, repairs_of, hurt_found, accepted_of, body_of, frame_said}
 use Rattle.lora.specs.Stages.{sum_agrees, Headed, data_of}
+use Rattle.lora.specs.declared.opening.Front.{Front}
+use Rattle.lora.specs.declared.shape.Shape.{Shape}
 use Rattle.lora.specs.declared.Expected.TheVariants.{Explicit}
-use Rattle.lora.specs.declared.Received.TheVariants.{Payload, Refused}
+use Rattle.refusal.specs.Refusal.{refuse}
 use Rattle.lora.proofs.HeadLaws.{Heads, header-found}
 
 -- the nibbles of a frame without its header's are its data
@@ -47,8 +51,20 @@ module _ (F : Frame) (len : ℕ) {n : ℕ} (is : n ≡ nibbles_of F len) where
 -- a run over the data codewords of a frame whose header was read with so many repairs
 pub record Run (F : Frame) (symbols : List ℕ) (len before : ℕ) (nibbles : List ℕ) (end repairs : ℕ) : Type 0 where
   pub valid : Valid F
+  pub short : len ≤ 255
   pub header : before ≡ how_many (repaired_at (found_at F symbols)) F.header
   pub walk : Walk (data_found F symbols) (data_nibbles len F.checked) F.header (blank 519 0) nibbles end repairs
+
+pub run : (shape : Shape) {symbols : List ℕ} {front : Front} {n : ℕ} {nibbles : List ℕ} {end repairs : ℕ} → Headed shape.frame symbols front → n ≡ nibbles_of shape.frame shape.len
+    → Walk (data_found shape.frame symbols) (n - shape.frame.header) shape.frame.header (blank 519 0) nibbles end repairs
+    → Run shape.frame symbols shape.len front.repairs nibbles end repairs
+run shape {symbols} h e w =
+    record {
+      valid = shape.valid;
+      short = shape.short;
+      header = h.repaired ∙ how_many-cong _ _ shape.frame.header (λ i l. ap is_repaired (sym (header-found shape.frame symbols shape.valid i (omega (arith, shape.valid.header-high)))));
+      walk = rw (data_is shape.frame shape.len e) at w;
+    }
 
 module _ {F : Frame} {symbols : List ℕ} {len before : ℕ} {nibbles : List ℕ} {end repairs : ℕ} (w : Run F symbols len before nibbles end repairs) where
   room : F.header ≤ length (blank {A = ℕ} 519 0)
@@ -69,6 +85,10 @@ module _ {F : Frame} {symbols : List ℕ} {len before : ℕ} {nibbles : List ℕ
   -- at most behind the last
   pub run-le : end ≤ data_nibbles len F.checked
   run-le = omega (arith, w.walk.ends, first_range (unreadable_at (data_found F symbols)) (data_nibbles len F.checked) 0)
+
+  -- a frame has at most 514 of them
+  pub read_few : end ≤ 514
+  read_few = omega (arith, run-le, data-le len F.checked w.short)
 
   -- with no more repairs than codewords
   pub run-few : before + repairs ≤ F.header + end
@@ -126,18 +146,18 @@ module _ {F : Frame} {symbols : List ℕ} {len before : ℕ} {nibbles : List ℕ
         ∙ sym (how_many-add (repaired_at (found_at F symbols)) F.header (data_nibbles len F.checked))
 
   -- the three answers: a codeword that can't be read, a checksum that disagrees, and the payload
-  pub says-unreadable : F.header + end < nibbles_of F len → Refused 7 (F.header + end) ≡ data_of F symbols len
+  pub says-unreadable : F.header + end < nibbles_of F len → refuse 7 (F.header + end) ≡ data_of F symbols len
   unfolding data_of
   says-unreadable l = rw (← run_ends, lt-leb _ _ l)
 
   pub says-twelve : (payload d : List ℕ) → nibbles_of F len ≤ F.header + end → payload ≡ over len (payload_byte F.header (listed nibbles)) d
-      → sum_agrees F len payload nibbles ≡ false → Refused 12 0 ≡ data_of F symbols len
+      → sum_agrees F len payload nibbles ≡ false → refuse 12 0 ≡ data_of F symbols len
   unfolding data_of
   says-twelve payload d l e f = rw (← run_ends, le-leb _ _ l, ← run-sum l d e, f)
 
   pub says-payload : {drift : ℤ} (payload d : List ℕ) → drift ≡ drift_of F.sf (get_or symbols 0 0) → nibbles_of F len ≤ F.header + end → payload ≡ over len (payload_byte F.header (listed nibbles)) d
       → sum_agrees F len payload nibbles ≡ true
-      → Payload (record {
+      → Ok (record {
         length = len;
         cr = F.cr;
         checked = F.checked;
@@ -148,27 +168,27 @@ module _ {F : Frame} {symbols : List ℕ} {len before : ℕ} {nibbles : List ℕ
       ≡ data_of F symbols len
   unfolding data_of accepted_of
   says-payload payload d is l e f =
-      ap (λ (x : ℤ). Payload (record { length = len; cr = F.cr; checked = F.checked; symbols = symbols_of F len; repairs = before + repairs; drift = x })) is
+      ap (λ (x : ℤ). Ok (record { length = len; cr = F.cr; checked = F.checked; symbols = symbols_of F len; repairs = before + repairs; drift = x })) is
       ∙ rw (← run_ends, le-leb _ _ l, ← run-sum l d e, f, run-repairs l)
 
 -- the checks behind the header, in their order
 module _ (F : Frame) (symbols : List ℕ) (room marks len : ℕ) where
-  pub says_four : room < len → body_of F symbols room marks len ≡ Refused 4 len
+  pub says_four : room < len → body_of F symbols room marks len ≡ refuse 4 len
   unfolding body_of
   says_four h = rw (lt-leb _ _ h)
 
   module _ {total : ℕ} (is : total ≡ symbols_of F len) (fits : len ≤ room) where
-    pub says-four-marks : marks < total → body_of F symbols room marks len ≡ Refused 4 total
+    pub says-four-marks : marks < total → body_of F symbols room marks len ≡ refuse 4 total
     unfolding body_of
     says-four-marks h = rw (← is, le-leb _ _ fits, lt-leb _ _ h)
 
     module _ (listed : total ≤ marks) where
-      pub says_five : length symbols < total → body_of F symbols room marks len ≡ Refused 5 total
+      pub says_five : length symbols < total → body_of F symbols room marks len ≡ refuse 5 total
       unfolding body_of
       says_five h = rw (← is, le-leb _ _ fits, le-leb _ _ listed, lt-leb _ _ h)
 
       module _ {over : ℕ} (there : total ≤ length symbols) (found : over ≡ over_in_frame F symbols len) where
-        pub says_six : over < total → body_of F symbols room marks len ≡ Refused 6 over
+        pub says_six : over < total → body_of F symbols room marks len ≡ refuse 6 over
         unfolding body_of
         says_six h = rw (← is, ← found, le-leb _ _ fits, le-leb _ _ listed, le-leb _ _ there, lt-leb _ _ h)
 
@@ -191,38 +211,28 @@ unfolding over_in_frame first_over is_over
 all-below F symbols len h t l =
     leb-false (2 ^ F.sf) (get_or symbols t 0) (first-before (is_over F.sf symbols) (symbols_of F len) 0 t (omega arith) (omega arith))
 
--- the front of a list, copied out: the payload's bytes, and the symbols' marks
-copied : (n : ℕ) (l old : List ℕ) (f : ℕ → ℕ) → n ≤ length l → ((i : ℕ) → i < n → get_or l i 0 ≡ f i) → over (length (take n l)) (listed (take n l)) old ≡ over n f old
-unfolding listed
-copied n l old f room is = rw (length-take-le n l room) (over-cong n _ _ old (λ i h. get_or-take n l i 0 h ∙ is i h))
+-- a frame has at most 832 symbols
+pub whole-le : (shape : Shape) → shape.total ≤ 832
+whole-le shape = omega (arith, shape.whole, symbols-le shape.frame shape.len shape.valid shape.short)
 
-pub copied-payload : {payload : List ℕ} (F : Frame) (symbols : List ℕ) (len : ℕ) (old : List ℕ) → len ≤ length payload → payload ≡ over len (byte_found F symbols) (blank 255 0)
-    → over (length (take len payload)) (listed (take len payload)) old ≡ over len (byte_found F symbols) old
-copied-payload {payload} F symbols len old room e = copied len payload old _ room (λ i l. rw e (get_d_over len (byte_found F symbols) (blank 255 0) i 0 l))
+-- the front of what was read: the payload's bytes, and the symbols' marks
+pub front-payload : {payload : List ℕ} (F : Frame) (symbols : List ℕ) (len : ℕ) → payload ≡ over len (byte_found F symbols) (blank 255 0) → take len payload ≡ tab len (byte_found F symbols)
+front-payload F symbols len e = rw e (take_at (tab len (byte_found F symbols)) (drop len (blank 255 0)) len (length-tab len _))
 
-pub copied-marks : {marks : List ℕ} {total : ℕ} (F : Frame) (symbols : List ℕ) (len : ℕ) (old : List ℕ) → total ≡ symbols_of F len → total ≤ length marks
-    → Marked F symbols (nibbles_of F len) (symbols_of F len) marks → over (length (take total marks)) (listed (take total marks)) old ≡ over (symbols_of F len) (hurt_found F symbols len) old
+pub front-marks : {marks : List ℕ} (F : Frame) (symbols : List ℕ) (len : ℕ) → symbols_of F len ≤ 832 → Marked F symbols (nibbles_of F len) (symbols_of F len) marks
+    → take (symbols_of F len) marks ≡ tab (symbols_of F len) (hurt_found F symbols len)
 unfolding hurt_found
-copied-marks {marks} {total} F symbols len old is room m = rw is (copied (symbols_of F len) marks old _ (rw is at room) m.cells)
+front-marks {marks} F symbols len few m =
+    let n = symbols_of F len in
+    sym (tab-get_or (take n marks) 0) ∙ rw (length-take-le n marks (omega (arith, few, m.long))) (tab-cong n _ _ (λ i l. get_or-take n marks i 0 l ∙ m.cells i l))
 
--- where head says a header, the frame behind it can be read on
-pub headed : (sf : ℕ) (low : Bool) (symbols : List ℕ) (h : Header) {grid : List (List Bool)} {repairs counts : ℕ} → Heads sf h
-    → grid ≡ grid_of_symbols (first_block sf) symbols → repairs ≡ how_many (repaired_at (header_found sf symbols)) 5 → counts ≡ flips (read_row 4 grid) 5
-    → Headed (frame_said sf low Explicit h.cr h.checked) symbols h.length grid repairs counts
-headed sf low symbols h {grid} {repairs} p g r c =
-    let F : Frame = frame_said sf low Explicit h.cr h.checked in
-    let v : Valid F = record { sf-low = p.sf-low; sf-high = p.sf-high; cr-low = p.cr-low; cr-high = p.cr-high; header-high = omega arith } in
-    record {
-      valid = v;
-      short = p.short;
-      first = g;
-      repaired = r ∙ how_many-cong _ _ 5 (λ i l. ap is_repaired (sym (header-found F symbols v i l)));
-      flipped = c;
-    }
+-- where head says a header, the frame behind it is valid
+pub said_valid : (sf : ℕ) (low : Bool) (h : Header) → Heads sf h → Valid (frame_said sf low Explicit h.cr h.checked)
+said_valid sf low h p = record { sf-low = p.sf-low; sf-high = p.sf-high; cr-low = p.cr-low; cr-high = p.cr-high; header-high = omega arith }
 
--- and a frame that has none, from its first codeword on
-pub unheaded : (F : Frame) (symbols : List ℕ) (len : ℕ) {grid : List (List Bool)} → Valid F → F.header ≡ 0 → len ≤ 255
-    → grid ≡ grid_of_symbols (first_block F.sf) symbols → Headed F symbols len grid 0 0
+-- a frame that has no header, from its first codeword on
+pub unheaded : (F : Frame) (symbols : List ℕ) {grid : List (List Bool)} → F.header ≡ 0 → grid ≡ grid_of_symbols (first_block F.sf) symbols
+    → Headed F symbols (record { grid = grid; repairs = 0; flips = 0 })
 unfolding how_many
-unheaded F symbols len {grid} v none short g =
-    record { valid = v; short = short; first = g; repaired = rw none; flipped = rw none (flips-none (read_row 4 grid)) }
+unheaded F symbols {grid} none g =
+    record { first = g; repaired = rw none; flipped = rw none (flips-none (read_row 4 grid)) }

@@ -1,13 +1,11 @@
 -- The operation airtime. Document 01, "Time on air"; it checks 1, 2, 3, then 13.
 -- Assumes nothing.
-use Rattle.std.specs.Prelude.{Bool, ◌||◌, ℕ, ◌+◌, ◌*◌, ◌/◌, ◌^◌, eqb}
+use Rattle.std.specs.Prelude.{Bool, ◌||◌, ℕ, ◌+◌, ◌*◌, ◌/◌, ◌^◌, eqb, Result, Ok, Err}
 use Rattle.bits.specs.Check.{check}
 use Rattle.lora.specs.Count.{count_of}
 use Rattle.lora.specs.declared.Settings.{Settings}
-use Rattle.lora.specs.declared.Counted.{Counted}
-use Rattle.lora.specs.declared.Counted.TheVariants.{Symbols, Refused as CountRefused}
-use Rattle.lora.specs.declared.Lasting.{Lasting}
-use Rattle.lora.specs.declared.Lasting.TheVariants.{Microseconds, Refused}
+use Rattle.refusal.specs.Refusal.{refuse}
+use Rattle.refusal.specs.declared.Refusal.{Refusal}
 
 -- 125, 250 or 500 kHz
 unfoldable pub valid_bandwidth : ℕ → Bool
@@ -21,9 +19,9 @@ unfoldable pub microseconds : ℕ → ℕ → ℕ → ℕ → ℕ
 microseconds sf n S khz = dividend sf n S / khz
 
 -- count's checks, then 13
-abbrev pub lasting : Counted → Settings → ℕ → ℕ → Lasting
-lasting (CountRefused number place) s khz n = Refused number place
-lasting (Symbols count) s khz n = check (valid_bandwidth khz) (Refused 13 0) (Microseconds (microseconds s.sf n count khz))
+abbrev pub lasting : Result ℕ Refusal → Settings → ℕ → ℕ → Result ℕ Refusal
+lasting (Err refusal) s khz n = Err refusal
+lasting (Ok count) s khz n = check (valid_bandwidth khz) (refuse 13 0) (Ok (microseconds s.sf n count khz))
 
-unfoldable pub airtime_of : Settings → ℕ → ℕ → ℕ → Lasting
+unfoldable pub airtime_of : Settings → ℕ → ℕ → ℕ → Result ℕ Refusal
 airtime_of s len khz n = lasting (count_of s len) s khz n

@@ -1,17 +1,17 @@
 -- The operation count. Document 01, "Numbers handed back instead of a result": count checks 1, 2, 3; and document 02, Ask 4: settings carry
 -- the explicit header or the agreed length, rate and flag, and 3 is given also for a length that isn't the agreed one.
 -- Assumes nothing.
-use Rattle.std.specs.Prelude.{Bool, ◌&&◌, ℕ, leb, eqb}
+use Rattle.std.specs.Prelude.{Bool, ◌&&◌, ℕ, leb, eqb, Result, Ok}
 use Rattle.bits.specs.Check.{check}
 use Rattle.layout.specs.Layout.{valid_sf, valid_cr, symbols_of}
 use Rattle.layout.specs.declared.Frame.{Frame}
+use Rattle.refusal.specs.Refusal.{refuse}
+use Rattle.refusal.specs.declared.Refusal.{Refusal}
 use Rattle.lora.specs.declared.Expected.{Expected}
 use Rattle.lora.specs.declared.Expected.TheVariants as expected
 use Rattle.lora.specs.declared.Kind.{Kind}
 use Rattle.lora.specs.declared.Kind.TheVariants.{Explicit, Agreed}
 use Rattle.lora.specs.declared.Settings.{Settings}
-use Rattle.lora.specs.declared.Counted.{Counted}
-use Rattle.lora.specs.declared.Counted.TheVariants.{Symbols, Refused}
 
 -- of either kind the code rate and the checksum flag
 abbrev pub cr_of : Kind → ℕ
@@ -41,9 +41,9 @@ unfoldable pub takes : Kind → ℕ → Bool
 takes (Explicit cr flag) len = leb len 255
 takes (Agreed agreed cr flag) len = leb len 255 && eqb len agreed
 
-unfoldable pub count_of : Settings → ℕ → Counted
+unfoldable pub count_of : Settings → ℕ → Result ℕ Refusal
 count_of s len =
-    check (valid_sf s.sf) (Refused 1 0)
-    (check (valid_cr (cr_of s.kind)) (Refused 2 0)
-    (check (takes s.kind len) (Refused 3 0)
-    (Symbols (symbols_of (frame_of s) len))))
+    check (valid_sf s.sf) (refuse 1 0)
+    (check (valid_cr (cr_of s.kind)) (refuse 2 0)
+    (check (takes s.kind len) (refuse 3 0)
+    (Ok (symbols_of (frame_of s) len))))

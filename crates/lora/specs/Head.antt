@@ -1,17 +1,16 @@
 -- The operation head: it checks 1; 5 for eight symbols; 6 among those, lowest index first; 7 over codewords 0 to 4; 9; 10; 11.
 -- Assumes nothing.
-use Rattle.std.specs.Prelude.{Bool, List, ℕ, ◌^◌, leb, length, get_or}
+use Rattle.std.specs.Prelude.{Bool, List, ℕ, ◌^◌, leb, length, get_or, Result}
 use Rattle.bits.specs.Check.{check}
 use Rattle.bits.specs.Search.{first}
 use Rattle.bits.specs.Tab.{tab}
 use Rattle.codeword.specs.Found.{Found}
 use Rattle.header.specs.Header.{verdict_of}
-use Rattle.header.specs.declared.Verdict.{Verdict}
-use Rattle.header.specs.declared.Verdict.TheVariants.{Says as HeaderSays, Refused as HeaderRefused}
+use Rattle.header.specs.declared.Header.{Header}
 use Rattle.layout.specs.Layout.{valid_sf, first_block}
 use Rattle.reading.specs.Found.{found_in_block, unreadable_at, nibble_at}
-use Rattle.lora.specs.declared.Heading.{Heading}
-use Rattle.lora.specs.declared.Heading.TheVariants.{Says, Refused}
+use Rattle.refusal.specs.Refusal.{refuse}
+use Rattle.refusal.specs.declared.Refusal.{Refusal}
 
 -- symbol t is 2^SF or more
 unfoldable pub is_over : ℕ → List ℕ → ℕ → Bool
@@ -29,19 +28,15 @@ header_found sf symbols = found_in_block (first_block sf) symbols
 unfoldable pub unreadable_in_header : (ℕ → Found) → ℕ
 unreadable_in_header found = first (unreadable_at found) 5 0
 
-abbrev pub said : Verdict → Heading
-said (HeaderSays h) = Says h
-said (HeaderRefused number) = Refused number 0
-
 -- 7 over codewords 0 to 4; 9; 10; 11
-unfoldable pub header_of : (ℕ → Found) → Heading
+unfoldable pub header_of : (ℕ → Found) → Result Header Refusal
 header_of found =
-    check (leb 5 (unreadable_in_header found)) (Refused 7 (unreadable_in_header found))
-    (said (verdict_of (tab 5 (nibble_at found))))
+    check (leb 5 (unreadable_in_header found)) (refuse 7 (unreadable_in_header found))
+    (verdict_of (tab 5 (nibble_at found)))
 
-unfoldable pub head_of : ℕ → List ℕ → Heading
+unfoldable pub head_of : ℕ → List ℕ → Result Header Refusal
 head_of sf symbols =
-    check (valid_sf sf) (Refused 1 0)
-    (check (leb 8 (length symbols)) (Refused 5 8)
-    (check (leb 8 (first_over sf symbols 8 0)) (Refused 6 (first_over sf symbols 8 0))
+    check (valid_sf sf) (refuse 1 0)
+    (check (leb 8 (length symbols)) (refuse 5 8)
+    (check (leb 8 (first_over sf symbols 8 0)) (refuse 6 (first_over sf symbols 8 0))
     (header_of (header_found sf symbols))))

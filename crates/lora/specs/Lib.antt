@@ -3,4 +3,5 @@ pub mod Code
 pub mod Count
 pub mod Head
 pub mod Read
+pub mod Received
 pub mod Stages

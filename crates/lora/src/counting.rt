@@ -1,9 +1,12 @@
 // The operation count.
 ghost use Rattle.std.specs.Prelude.{◌≡◌};
 ghost use Rattle.lora.specs.Count.{frame_of, takes, count_of};
+ghost use Rattle.lora.specs.Stages.{Shaped};
 
-use crate::{Counted, Kind, Settings};
+use crate::shape::Shape;
+use crate::{Kind, Settings};
 use layout::Frame;
+use refusal::Refusal;
 
 // The nibbles of an explicit header.
 const HEADER: usize = 5;
@@ -14,8 +17,7 @@ pub fn frame_of(s: Settings) -> Frame
 {
     let sf = s.sf;
     let low = s.low;
-    let kind = s.kind;
-    match kind {
+    match s.kind {
         Kind::Explicit { cr, checked } => Frame {
             sf,
             low,
@@ -38,6 +40,7 @@ pub fn frame_of(s: Settings) -> Frame
 }
 
 // Whether a payload may have this length: at most 255, and as was agreed.
+#[tactic(auto, unfolding(crate::specs::Count::takes))]
 fn takes(kind: Kind, length: usize) -> bool
     ensures { result ≡ takes kind length }
 {
@@ -45,40 +48,46 @@ fn takes(kind: Kind, length: usize) -> bool
         return false;
     }
     match kind {
-        Kind::Explicit { cr: _, checked: _ } => true,
-        Kind::Agreed {
-            length: agreed,
-            cr: _,
-            checked: _,
-        } => length == agreed,
+        Kind::Explicit { .. } => true,
+        Kind::Agreed { length: agreed, .. } => length == agreed,
     }
 }
 
-// How many symbols a frame with a payload of this length has.
-pub fn count(s: Settings, length: usize) -> Counted
-    ensures { result ≡ count_of s length }
+// The shape of a frame with a payload of this length.
+#[tactic(auto, unfolding(crate::specs::Count::count_of))]
+pub fn shape_of(s: Settings, length: usize) -> Result<Shape, Refusal>
+    ensures { Shaped s length result }
 {
-    let f = frame_of(s);
-    if !layout::valid_sf(f.sf) {
-        return Counted::Refused {
+    let frame = frame_of(s);
+    if !layout::valid_sf(frame.sf) {
+        return Err(Refusal {
             number: refusal::BAD_SF,
             place: 0,
-        };
+        });
     }
-    if !layout::valid_cr(f.cr) {
-        return Counted::Refused {
+    if !layout::valid_cr(frame.cr) {
+        return Err(Refusal {
             number: refusal::BAD_CR,
             place: 0,
-        };
+        });
     }
-    let kind = s.kind;
-    if !takes(kind, length) {
-        return Counted::Refused {
+    if !takes(s.kind, length) {
+        return Err(Refusal {
             number: refusal::TOO_LONG,
             place: 0,
-        };
+        });
     }
-    Counted::Symbols {
-        count: layout::symbols_of(f, length),
-    }
+    Ok(Shape {
+        frame,
+        len: length,
+        total: layout::symbols_of(frame, length),
+    })
+}
+
+// How many symbols a frame with a payload of this length has.
+pub fn count(s: Settings, length: usize) -> Result<usize, Refusal>
+    ensures { result ≡ count_of s length }
+{
+    let shape = shape_of(s, length)?;
+    Ok(shape.total)
 }

@@ -5,18 +5,20 @@ mod counting;
 mod opening;
 mod receiving;
 mod sending;
+mod shape;
 mod timing;
 
 pub use counting::count;
-use header::Header;
 pub use opening::head;
 pub use receiving::read;
+use refusal::Refusal;
 pub use sending::code;
 pub use timing::airtime;
 
 // How the two sides know a frame's length, its code rate and whether a checksum follows the payload: from an explicit header that
-// is sent in front, or because it was agreed.
-#[derive(Clone, Copy)]
+// is sent in front, or because it was agreed. No Option of the agreed length: the names say which kinds of frames there are, where
+// None would say less.
+#[derive(Clone, Copy, Debug, PartialEq, Eq)]
 pub enum Kind {
     Explicit {
         cr: u8,
@@ -30,15 +32,15 @@ pub enum Kind {
 }
 
 // What a frame is sent with: spreading factor, low-rate flag, and the rest by its kind.
-#[derive(Clone, Copy)]
+#[derive(Clone, Copy, Debug, PartialEq, Eq)]
 pub struct Settings {
     pub sf: u8,
     pub low: bool,
     pub kind: Kind,
 }
 
-// What a reader expects: a header, which says the rest, or a frame as it was agreed.
-#[derive(Clone, Copy)]
+// What a reader expects: a header, which says the rest, or a frame as it was agreed. No Option, for the same reason.
+#[derive(Clone, Copy, Debug, PartialEq, Eq)]
 pub enum Expected {
     Explicit,
     Agreed {
@@ -48,30 +50,9 @@ pub enum Expected {
     },
 }
 
-// The answer of count and code.
-#[derive(Clone, Copy)]
-pub enum Counted {
-    Symbols { count: usize },
-    Refused { number: u8, place: usize },
-}
-
-// The answer of airtime.
-#[derive(Clone, Copy)]
-pub enum Lasting {
-    Microseconds { time: u64 },
-    Refused { number: u8, place: usize },
-}
-
-// The answer of head.
-#[derive(Clone, Copy)]
-pub enum Heading {
-    Says(Header),
-    Refused { number: u8, place: usize },
-}
-
 // What read says of a payload that it accepts: its length, the frame's code rate, whether a checksum followed it, the symbols
 // that the frame has, the codewords that were repaired, and how far the first symbol was off its mark, -2 to +1.
-#[derive(Clone, Copy)]
+#[derive(Clone, Copy, Debug, PartialEq, Eq)]
 pub struct Accepted {
     pub length: usize,
     pub cr: u8,
@@ -82,8 +63,4 @@ pub struct Accepted {
 }
 
 // The answer of read.
-#[derive(Clone, Copy)]
-pub enum Received {
-    Payload(Accepted),
-    Refused { number: u8, place: usize },
-}
+pub type Received = Result<Accepted, Refusal>;

@@ -1,137 +1,110 @@
 // The operation head, in steps that read takes too, so that block 0 is read once.
-ghost use Rattle.std.specs.Prelude.{◌≡◌, ◌-◌, ◌≤◌, leb, length};
-ghost use Rattle.codeword.specs.Readings.{reading_table, step_table};
-ghost use Rattle.lora.specs.Head.{first_over, said, head_of};
-ghost use Rattle.lora.specs.Stages.{Entered, Opening};
+ghost use Rattle.std.specs.Prelude.{◌≡◌, ◌≤◌, leb, length, Ok};
+ghost use Rattle.lora.specs.Head.{first_over, head_of};
+ghost use Rattle.lora.specs.Stages.{FirstOver, Entered, Opening};
 
-use crate::Heading;
-use codeword::{BITS, WORDS};
-use header::Verdict;
-use reading::NIBBLES;
+use header::Header;
+use reading::{NIBBLES, Tables};
+use refusal::Refusal;
 
-// Whether no symbol from the index from on, up to the index end, is 2^SF or more. It looks at all of them, so that the compiler
-// can compare eight at a time.
-fn none_over(sf: u8, symbols: &[u16], from: usize, end: usize) -> bool
-    requires { (sf ≤ 12) × (from ≤ end) × (end ≤ length symbols.now) }
-    ensures { result ≡ leb end (first_over sf symbols.now (end - from) from) }
+// Whether none of these symbols is 2^SF or more. It looks at all of them, so that the compiler can compare eight at a time, where
+// `all` would stop at the first.
+fn none_over(sf: u8, symbols: &[u16]) -> bool
+    requires { sf ≤ 12 }
+    ensures { result ≡ leb (length symbols.now) (first_over sf symbols.now (length symbols.now) 0) }
 {
-    let m = bits::power(bits::wide(sf));
+    let m = bits::power(usize::from(sf));
     let mut none = true;
-    for i in from..end {
-        if m <= symbols[i] {
+    for x in symbols {
+        if m <= *x {
             none = false;
         }
     }
     none
 }
 
-// The first symbol from the index from on, up to the index end, that is 2^SF or more; else end.
-pub fn first_over(sf: u8, symbols: &[u16], from: usize, end: usize) -> usize
-    requires { (sf ≤ 12) × (from ≤ end) × (end ≤ length symbols.now) }
-    ensures { result ≡ first_over sf symbols.now (end - from) from }
+// The first of these symbols that is 2^SF or more.
+pub fn first_over(sf: u8, symbols: &[u16]) -> Option<usize>
+    requires { sf ≤ 12 }
+    ensures { FirstOver sf symbols.now (length symbols.now) result }
 {
-    if none_over(sf, symbols, from, end) {
-        return end;
+    if none_over(sf, symbols) {
+        return None;
     }
-    let m = bits::power(bits::wide(sf));
-    let mut i = from;
-    while i < end {
-        if symbols[i] >= m {
-            return i;
-        }
-        i += 1;
-    }
-    end
-}
-
-// How some checks end: passed, or refused.
-#[derive(Clone, Copy)]
-pub enum Entry {
-    Passed,
-    Refused { number: u8, place: usize },
+    let m = bits::power(usize::from(sf));
+    symbols.iter().position(|x| m <= *x)
 }
 
 // Head's checks before the header: 1; 5 for eight symbols; 6 among those.
-pub fn enter(sf: u8, symbols: &[u16]) -> Entry
+#[tactic(auto, unfolding(crate::specs::Head::head_of))]
+pub fn enter(sf: u8, symbols: &[u16]) -> Result<(), Refusal>
     ensures { Entered result sf symbols.now }
 {
     if !layout::valid_sf(sf) {
-        return Entry::Refused {
+        return Err(Refusal {
             number: refusal::BAD_SF,
             place: 0,
-        };
+        });
     }
     if symbols.len() < 8 {
-        return Entry::Refused {
+        return Err(Refusal {
             number: refusal::FEW_SYMBOLS,
             place: 8,
-        };
+        });
     }
-    let over = first_over(sf, symbols, 0, 8);
-    if over < 8 {
-        return Entry::Refused {
+    if let Some(place) = first_over(sf, &symbols[..8]) {
+        return Err(Refusal {
             number: refusal::SYMBOL_OVER,
-            place: over,
-        };
+            place,
+        });
     }
-    Entry::Passed
+    Ok(())
 }
 
-fn said(v: Verdict) -> Heading
-    ensures { result ≡ said v }
-{
-    match v {
-        Verdict::Says(h) => Heading::Says(h),
-        Verdict::Refused { number } => Heading::Refused { number, place: 0 },
-    }
-}
-
-// What a header says, and among its codewords the repairs and how often each bit was flipped.
-#[derive(Clone, Copy)]
-pub struct Opened {
-    pub heading: Heading,
+// The front of a frame: the grid of block 0, and among the header's codewords in it the repairs and how often each bit was flipped.
+#[derive(Clone, Copy, Debug, PartialEq, Eq)]
+pub struct Front {
+    pub grid: [[bool; 8]; 12],
     pub repairs: usize,
     pub flips: u64,
 }
 
-// Reads the header's codewords in the grid of block 0.
-pub fn header_of(readings: &[u8; WORDS], steps: &[u64; BITS], grid: &[[bool; 8]; 12]) -> Opened
-    requires { (readings.now ≡ reading_table) × (steps.now ≡ step_table) }
-    ensures { Opening grid.now result.heading result.repairs result.flips }
+// A frame's front, and what the header in it says.
+#[derive(Clone, Copy, Debug, PartialEq, Eq)]
+pub struct Opened {
+    pub header: Header,
+    pub front: Front,
+}
+
+// Reads the header's codewords in block 0, after the checks before it.
+pub fn header_of(tables: &Tables, sf: u8, symbols: &[u16]) -> Result<Opened, Refusal>
+    requires { Entered (Ok tt) sf symbols.now }
+    ensures { Opening sf symbols.now result }
 {
+    let grid = reading::first_grid(sf, symbols);
     let mut nibbles = [0u8; NIBBLES];
-    let rows = reading::read_rows(readings, steps, 4, grid, 0, 5, 0, 0, &mut nibbles);
+    let rows = reading::read_rows(tables, 4, &grid, 0, 5, 0, 0, &mut nibbles);
     let end = rows.end;
     if end < 5 {
-        return Opened {
-            heading: Heading::Refused {
-                number: refusal::UNREADABLE,
-                place: end,
-            },
-            repairs: 0,
-            flips: 0,
-        };
+        return Err(Refusal {
+            number: refusal::UNREADABLE,
+            place: end,
+        });
     }
-    let verdict = header::judge([nibbles[0], nibbles[1], nibbles[2], nibbles[3], nibbles[4]]);
-    Opened {
-        heading: said(verdict),
+    let header = header::judge([nibbles[0], nibbles[1], nibbles[2], nibbles[3], nibbles[4]])?;
+    let front = Front {
+        grid,
         repairs: rows.repairs,
         flips: rows.flips,
-    }
+    };
+    Ok(Opened { header, front })
 }
 
 // What a frame's header says, from its first eight symbols.
-pub fn head(sf: u8, symbols: &[u16]) -> Heading
+pub fn head(sf: u8, symbols: &[u16]) -> Result<Header, Refusal>
     ensures { result ≡ head_of sf symbols.now }
 {
-    let entry = enter(sf, symbols);
-    match entry {
-        Entry::Refused { number, place } => Heading::Refused { number, place },
-        Entry::Passed => {
-            let grid = reading::first_grid(sf, symbols);
-            let readings = codeword::readings();
-            let steps = codeword::steps();
-            header_of(&readings, &steps, &grid).heading
-        }
-    }
+    enter(sf, symbols)?;
+    let opened = header_of(&Tables::new(), sf, symbols)?;
+    Ok(opened.header)
 }

@@ -1,40 +1,36 @@
 // The operation code.
 ghost use Rattle.std.specs.Prelude.{◌≡◌, ◌≤◌, length};
 ghost use Rattle.bits.specs.Tab.{over};
-ghost use Rattle.layout.specs.Layout.{symbols_of};
-ghost use Rattle.layout.specs.Ranges.{Valid};
 ghost use Rattle.lora.specs.Code.{sent_symbol, Coding};
 
-use crate::{Counted, Settings, counting};
-use layout::Frame;
+use crate::shape::Shape;
+use crate::{Settings, counting};
+use refusal::Refusal;
 
 // Writes the symbols of a frame, with as much of the header as it has: all or nothing.
-fn send(f: Frame, payload: &[u8], out: &mut [u16])
-    requires { Valid f × (length payload.now ≤ 255) × (symbols_of f (length payload.now) ≤ length out.old) }
-    ensures { out.new ≡ over (symbols_of f (length payload.now)) (sent_symbol f payload.now) out.old }
+fn send(shape: Shape, payload: &[u8], out: &mut [u16])
+    requires { (length payload.now ≡ shape.len) × (shape.total ≤ length out.old) }
+    ensures { out.new ≡ over shape.total (sent_symbol shape.frame payload.now) out.old }
 {
-    let n = f.header;
+    let f = shape.frame;
     let header = header::header_nibbles(payload.len(), f.cr, f.checked);
     let checksum = checksum::checksum(payload);
-    coding::write_frame(f, &header[..n], payload, checksum, out);
+    coding::write_frame(f, &header[..f.header], payload, checksum, out);
 }
 
 // Codes a payload into the lent list of symbols, and answers their count.
-pub fn code(s: Settings, payload: &[u8], out: &mut [u16]) -> Counted
+#[tactic(auto, unfolding(crate::specs::Code::code_of))]
+pub fn code(s: Settings, payload: &[u8], out: &mut [u16]) -> Result<usize, Refusal>
     ensures { Coding s payload.now out.old out.new result }
 {
-    let counted = counting::count(s, payload.len());
-    match counted {
-        Counted::Refused { number, place } => Counted::Refused { number, place },
-        Counted::Symbols { count } => {
-            if out.len() < count {
-                return Counted::Refused {
-                    number: refusal::OUT_SHORT,
-                    place: count,
-                };
-            }
-            send(counting::frame_of(s), payload, out);
-            Counted::Symbols { count }
-        }
+    let shape = counting::shape_of(s, payload.len())?;
+    let count = shape.total;
+    if out.len() < count {
+        return Err(Refusal {
+            number: refusal::OUT_SHORT,
+            place: count,
+        });
     }
+    send(shape, payload, out);
+    Ok(count)
 }

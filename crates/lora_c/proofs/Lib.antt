@@ -1,3 +1,1 @@
-pub mod FrontLaws
-pub mod SignedLaws
 pub mod TallyLaws

@@ -1,6 +1,6 @@
 -- The answers of the five operations as a number that is returned and the cells of a lent array.
 -- Assumes nothing.
-use Rattle.std.specs.Prelude.{Bool, not, List, [], ◌∷◌, ◌++◌, ◌≡◌, ℕ, suc, ◌-◌, ◌^◌, eqb, ltb, ℤ, pos, negsuc, length, drop}
+use Rattle.std.specs.Prelude.{Bool, not, List, [], ◌∷◌, ◌++◌, ◌≡◌, ℕ, suc, ◌-◌, ◌^◌, eqb, ltb, ℤ, pos, negsuc, length, drop, Result, Ok, Err}
 use Rattle.bits.specs.Bit.{as_bit}
 use Rattle.bits.specs.Check.{check}
 use Rattle.lora.specs.Code.{symbols_after}
@@ -9,14 +9,10 @@ use Rattle.lora.specs.declared.Expected.{Expected}
 use Rattle.lora.specs.declared.Expected.TheVariants.{Agreed as AsAgreed}
 use Rattle.lora.specs.declared.Kind.TheVariants.{Explicit, Agreed}
 use Rattle.lora.specs.declared.Settings.{Settings}
-use Rattle.lora.specs.declared.Counted.{Counted}
-use Rattle.lora.specs.declared.Counted.TheVariants.{Symbols, Refused as CountRefused}
-use Rattle.lora.specs.declared.Lasting.{Lasting}
-use Rattle.lora.specs.declared.Lasting.TheVariants.{Microseconds, Refused as TimeRefused}
-use Rattle.lora.specs.declared.Heading.{Heading}
-use Rattle.lora.specs.declared.Heading.TheVariants.{Says, Refused as HeadRefused}
-use Rattle.lora.specs.declared.Received.{Received}
-use Rattle.lora.specs.declared.Received.TheVariants.{Payload, Refused}
+use Rattle.header.specs.declared.Header.{Header}
+use Rattle.lora.specs.Received.{Received}
+use Rattle.lora.specs.declared.Accepted.{Accepted}
+use Rattle.refusal.specs.declared.Refusal.{Refusal}
 
 -- a flag: 0 is off, any other number on
 abbrev pub flag_of : ℕ → Bool
@@ -34,21 +30,9 @@ abbrev pub expected_of : ℕ → ℕ → ℕ → Expected
 expected_of agreed cr checked = AsAgreed agreed cr (flag_of checked)
 
 -- the number returned: 0 for an acceptance, else the refusal's
-abbrev pub code_of_counted : Counted → ℕ
-code_of_counted (Symbols count) = 0
-code_of_counted (CountRefused number place) = number
-
-abbrev pub code_of_lasting : Lasting → ℕ
-code_of_lasting (Microseconds time) = 0
-code_of_lasting (TimeRefused number place) = number
-
-abbrev pub code_of_heading : Heading → ℕ
-code_of_heading (Says h) = 0
-code_of_heading (HeadRefused number place) = number
-
-abbrev pub code_of_received : Received → ℕ
-code_of_received (Payload a) = 0
-code_of_received (Refused number place) = number
+abbrev pub number_of : {T : Type 0} → Result T Refusal → ℕ
+number_of (Ok a) = 0
+number_of (Err refusal) = refusal.number
 
 -- a signed number as a cell: a negative one is 2^64 less its size
 abbrev pub cell_of : ℤ → ℕ
@@ -56,21 +40,19 @@ cell_of (pos n) = n
 cell_of (negsuc n) = 2 ^ 64 - suc n
 
 -- the cells written: an acceptance's values, a refusal's place
-abbrev pub cells_of_counted : Counted → List ℕ
-cells_of_counted (Symbols count) = count ∷ []
-cells_of_counted (CountRefused number place) = place ∷ []
+abbrev pub cells_of : {T : Type 0} → (T → List ℕ) → Result T Refusal → List ℕ
+cells_of cells (Ok a) = cells a
+cells_of cells (Err refusal) = refusal.place ∷ []
 
-abbrev pub cells_of_lasting : Lasting → List ℕ
-cells_of_lasting (Microseconds time) = time ∷ []
-cells_of_lasting (TimeRefused number place) = place ∷ []
+-- the values: one number; a header's; a payload's
+abbrev pub cells_of_number : ℕ → List ℕ
+cells_of_number n = n ∷ []
 
-abbrev pub cells_of_heading : Heading → List ℕ
-cells_of_heading (Says h) = h.length ∷ h.cr ∷ as_bit h.checked ∷ []
-cells_of_heading (HeadRefused number place) = place ∷ []
+abbrev pub cells_of_header : Header → List ℕ
+cells_of_header h = h.length ∷ h.cr ∷ as_bit h.checked ∷ []
 
-abbrev pub cells_of_received : Received → List ℕ
-cells_of_received (Payload a) = a.length ∷ a.cr ∷ as_bit a.checked ∷ a.symbols ∷ a.repairs ∷ cell_of a.drift ∷ []
-cells_of_received (Refused number place) = place ∷ []
+abbrev pub cells_of_accepted : Accepted → List ℕ
+cells_of_accepted a = a.length ∷ a.cr ∷ as_bit a.checked ∷ a.symbols ∷ a.repairs ∷ cell_of a.drift ∷ []
 
 -- cells at the front of a list, and the rest as it was
 unfoldable pub front : List ℕ → List ℕ → List ℕ
@@ -85,25 +67,21 @@ pub record Exported (need code : ℕ) (cells old new : List ℕ) (r : ℕ) : Typ
 pub record Lent (need : ℕ) (old lent after out : List ℕ) : Type 0 where
   pub written : out ≡ check (not (ltb (length old) need)) lent after
 
--- count's answer a, with the array of answers before and after, and the number returned
-pub record CountExported (a : Counted) (old new : List ℕ) (r : ℕ) : Type 0 where
-  pub is : Exported 1 (code_of_counted a) (cells_of_counted a) old new r
-
--- airtime's
-pub record TimeExported (a : Lasting) (old new : List ℕ) (r : ℕ) : Type 0 where
-  pub is : Exported 1 (code_of_lasting a) (cells_of_lasting a) old new r
+-- the answer a of count or airtime, with the array of answers before and after, and the number returned
+pub record NumberExported (a : Result ℕ Refusal) (old new : List ℕ) (r : ℕ) : Type 0 where
+  pub is : Exported 1 (number_of a) (cells_of cells_of_number a) old new r
 
 -- head's
-pub record HeadExported (a : Heading) (old new : List ℕ) (r : ℕ) : Type 0 where
-  pub is : Exported 3 (code_of_heading a) (cells_of_heading a) old new r
+pub record HeadExported (a : Result Header Refusal) (old new : List ℕ) (r : ℕ) : Type 0 where
+  pub is : Exported 3 (number_of a) (cells_of cells_of_header a) old new r
 
 -- code's answer a, with the lent list of symbols before and after as well
-pub record CodeExported (a : Counted) (s : Settings) (payload lent out old new : List ℕ) (r : ℕ) : Type 0 where
-  pub is : Exported 1 (code_of_counted a) (cells_of_counted a) old new r
+pub record CodeExported (a : Result ℕ Refusal) (s : Settings) (payload lent out old new : List ℕ) (r : ℕ) : Type 0 where
+  pub is : Exported 1 (number_of a) (cells_of cells_of_number a) old new r
   pub symbols : Lent 1 old lent (symbols_after a s payload lent) out
 
 -- read's, with the lent bytes and the lent list of hurt symbols before and after
 pub record ReadExported (a : Received) (sf : ℕ) (low : Bool) (expected : Expected) (symbols lent out hurts hurts' old new : List ℕ) (r : ℕ) : Type 0 where
-  pub is : Exported 6 (code_of_received a) (cells_of_received a) old new r
+  pub is : Exported 6 (number_of a) (cells_of cells_of_accepted a) old new r
   pub bytes : Lent 6 old lent (bytes_after a sf low expected symbols lent) out
   pub marks : Lent 6 old hurts (hurts_after a sf low expected symbols hurts) hurts'

@@ -1,14 +1,13 @@
 -- A tally as the cells of a lent array, an outcome of read as the number that it returned and the cells that it left, and what the three
 -- calls make of them.
 -- Assumes nothing.
-use Rattle.std.specs.Prelude.{Bool, true, false, cond, List, ◌≡◌, ℕ, zero, suc, ◌+◌, eqb, leb, pos, length, get_or}
+use Rattle.std.specs.Prelude.{Bool, true, false, cond, List, ◌≡◌, ℕ, zero, suc, ◌+◌, eqb, leb, pos, length, get_or, Result, Ok, Err}
 use Rattle.bits.specs.Check.{check}
 use Rattle.bits.specs.Tab.{tab, over}
-use Rattle.lora.specs.declared.Received.{Received}
-use Rattle.lora.specs.declared.Received.TheVariants.{Payload, Refused as NotRead}
-use Rattle.tally.specs.declared.Answer.{Answer}
-use Rattle.tally.specs.declared.Answer.TheVariants.{Done, Refused}
-use Rattle.tally.specs.declared.Noted.{Noted}
+use Rattle.lora.specs.Received.{Received}
+use Rattle.lora_c.specs.Export.{number_of}
+use Rattle.refusal.specs.Refusal.{refuse}
+use Rattle.refusal.specs.declared.Refusal.{Refusal}
 use Rattle.tally.specs.declared.Tally.{Tally}
 
 -- the 16 cells of a tally: heard, accepted clean, accepted repaired, refused under each number
@@ -29,7 +28,7 @@ tally_in cells = record { heard = get_or cells 0 0; clean = get_or cells 1 0; re
 -- repairs, which are the fifth cell
 unfoldable pub outcome_in : ℕ → List ℕ → Received
 outcome_in number cells =
-    cond (eqb number 0) (Payload (record { length = 0; cr = 0; checked = false; symbols = 0; repairs = get_or cells 4 0; drift = pos 0 })) (NotRead number 0)
+    cond (eqb number 0) (Ok (record { length = 0; cr = 0; checked = false; symbols = 0; repairs = get_or cells 4 0; drift = pos 0 })) (refuse number 0)
 
 -- lists that have the cells needed
 abbrev pub is_tally : List ℕ → Bool
@@ -38,16 +37,12 @@ is_tally cells = leb 16 (length cells)
 unfoldable pub is_outcome : ℕ → List ℕ → Bool
 is_outcome number cells = cond (eqb number 0) (leb 6 (length cells)) true
 
--- the number returned, and the cells after: a refusal leaves them as they were
-abbrev pub code_of_answer : Answer → ℕ
-code_of_answer Done = 0
-code_of_answer (Refused number place) = number
+-- the cells after: a refusal leaves them as they were
+abbrev pub cells_after : Result Tally Refusal → List ℕ → List ℕ
+cells_after (Ok t) old = over 16 (cell_of t) old
+cells_after (Err refusal) old = old
 
-abbrev pub cells_after : Answer → Tally → List ℕ → List ℕ
-cells_after Done t old = over 16 (cell_of t) old
-cells_after (Refused number place) t old = old
-
--- what a call notes, with the lent tally before and after, and the number returned: 255, and nothing is written, where a list is too short
-pub record TallyExported (enough : Bool) (n : Noted) (old new : List ℕ) (r : ℕ) : Type 0 where
-  pub returned : r ≡ check enough 255 (code_of_answer n.answer)
-  pub cells : new ≡ check enough old (cells_after n.answer n.tally old)
+-- what a call says, with the lent tally before and after, and the number returned: 255, and nothing is written, where a list is too short
+pub record TallyExported (enough : Bool) (said : Result Tally Refusal) (old new : List ℕ) (r : ℕ) : Type 0 where
+  pub returned : r ≡ check enough 255 (number_of said)
+  pub cells : new ≡ check enough old (cells_after said old)

@@ -5,7 +5,7 @@ ghost use Rattle.lora.specs.Airtime.{airtime_of};
 ghost use Rattle.lora.specs.Code.{code_of};
 ghost use Rattle.lora.specs.Count.{count_of};
 ghost use Rattle.lora.specs.Read.{read_of};
-ghost use Rattle.lora_c.specs.Export.{flag_of, agreed_of, expected_of, CountExported, TimeExported, CodeExported, ReadExported};
+ghost use Rattle.lora_c.specs.Export.{flag_of, agreed_of, expected_of, NumberExported, CodeExported, ReadExported};
 
 use crate::{airtime_into, code_into, count_into, read_into};
 use lora::{Expected, Kind, Settings};
@@ -35,7 +35,7 @@ pub fn lora_count_agreed(
     len: usize,
     answer: &mut [u64],
 ) -> u8
-    ensures { CountExported (count_of (agreed_of sf low agreed cr checked) len) answer.old answer.new result }
+    ensures { NumberExported (count_of (agreed_of sf low agreed cr checked) len) answer.old answer.new result }
 {
     count_into(settings(sf, low, agreed, cr, checked), len, answer)
 }
@@ -52,7 +52,7 @@ pub fn lora_airtime_agreed(
     preamble: u16,
     answer: &mut [u64],
 ) -> u8
-    ensures { TimeExported (airtime_of (agreed_of sf low agreed cr checked) len khz preamble) answer.old answer.new result }
+    ensures { NumberExported (airtime_of (agreed_of sf low agreed cr checked) len khz preamble) answer.old answer.new result }
 {
     airtime_into(
         settings(sf, low, agreed, cr, checked),

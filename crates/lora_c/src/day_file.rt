@@ -6,11 +6,11 @@ ghost use Rattle.day.specs.Walk.{shown};
 ghost use Rattle.day_write.specs.Write.{entries_of, write_of};
 ghost use Rattle.day.specs.declared.Entry.TheVariants.{Setting, Frame, Refused};
 ghost use Rattle.lora_c.specs.Export.{front};
-ghost use Rattle.lora_c.specs.DayExport.{cells_of_entry, WriteExported, CheckExported, StepExported};
+ghost use Rattle.lora_c.specs.DayExport.{cells_of_taken, cells_of_entry, WriteExported, CheckExported, StepExported};
 
-use crate::{ANSWER_SHORT, put};
-use day::{Entry, Place, Verdict};
-use day_write::Written;
+use crate::{ANSWER_SHORT, Cells, put, refuse, tell};
+use day::{Entry, Place, Taken};
+use refusal::Refusal;
 
 // Writes the file of a day's entries into the lent bytes. answer[0] on acceptance: the file's length.
 pub fn lora_day_write(
@@ -23,19 +23,22 @@ pub fn lora_day_write(
 ) -> u8
     ensures { WriteExported (write_of kind1 settings.now frames.now payloads.now refused.now (length out.old)) (file_of kind1 (entries_of settings.now frames.now payloads.now refused.now)) out.old out.new answer.old answer.new result }
 {
-    if answer.len() < 1 {
+    if answer.is_empty() {
         return ANSWER_SHORT;
     }
     let written = day_write::write(settings, frames, payloads, refused, out);
-    match written {
-        Written::Refused { number, place } => {
-            put(answer, &[place as u64]);
-            number
-        }
-        Written::Length { bytes } => {
-            put(answer, &[bytes as u64]);
-            0
-        }
+    tell(written, answer)
+}
+
+impl Cells<3> for Taken {
+    ghost cells = { cells_of_taken };
+
+    fn cells(self) -> [u64; 3] {
+        [
+            self.settings as u64,
+            self.frames as u64,
+            self.refused as u64,
+        ]
     }
 }
 
@@ -43,24 +46,7 @@ pub fn lora_day_write(
 pub fn lora_day_check(file: &[u8], answer: &mut [u64]) -> u8
     ensures { CheckExported (verdict (judged kind1 file.now)) answer.old answer.new result }
 {
-    if answer.len() < 3 {
-        return ANSWER_SHORT;
-    }
-    let found = day::check(file);
-    match found {
-        Verdict::Refused { number, place } => {
-            put(answer, &[place as u64]);
-            number
-        }
-        Verdict::Taken {
-            settings,
-            frames,
-            refused,
-        } => {
-            put(answer, &[settings as u64, frames as u64, refused as u64]);
-            0
-        }
-    }
+    tell(day::check(file), answer)
 }
 
 // A setting and the place behind it.
@@ -73,11 +59,11 @@ fn put_setting(answer: &mut [u64], sf: u8, low: u8, next: Place)
         &[
             1,
             next.at as u64,
-            next.section as u64,
+            u64::from(next.section),
             next.left as u64,
             next.settings as u64,
-            sf as u64,
-            low as u64,
+            u64::from(sf),
+            u64::from(low),
         ],
     );
 }
@@ -100,13 +86,13 @@ fn put_frame(
         &[
             2,
             next.at as u64,
-            next.section as u64,
+            u64::from(next.section),
             next.left as u64,
             next.settings as u64,
-            setting as u64,
-            cr as u64,
-            flag as u64,
-            repairs as u64,
+            u64::from(setting),
+            u64::from(cr),
+            u64::from(flag),
+            u64::from(repairs),
             start as u64,
             next.at as u64,
         ],
@@ -123,56 +109,57 @@ fn put_refused(answer: &mut [u64], setting: u8, number: u8, place: u16, next: Pl
         &[
             3,
             next.at as u64,
-            next.section as u64,
+            u64::from(next.section),
             next.left as u64,
             next.settings as u64,
-            setting as u64,
-            number as u64,
-            place as u64,
+            u64::from(setting),
+            u64::from(number),
+            u64::from(place),
         ],
     );
 }
 
 // What stands at a place, as a number and cells.
-fn tell(entry: Entry, answer: &mut [u64]) -> u8
-    ensures { StepExported entry answer.old answer.new result }
+fn tell_entry(seen: Result<Entry, Refusal>, answer: &mut [u64]) -> u8
+    ensures { StepExported seen answer.old answer.new result }
 {
     if answer.len() < 11 {
         return ANSWER_SHORT;
     }
-    match entry {
-        Entry::Setting { sf, low, next } => {
+    match seen {
+        Ok(Entry::Setting { sf, low, next }) => {
             put_setting(answer, sf, low, next);
             0
         }
-        Entry::Frame {
-            setting,
-            cr,
-            flag,
-            repairs,
-            start,
-            next,
-        } => {
+        Ok(
+            Entry::Frame {
+                setting,
+                cr,
+                flag,
+                repairs,
+                start,
+                next,
+            },
+        ) => {
             put_frame(answer, setting, cr, flag, repairs, start, next);
             0
         }
-        Entry::Refused {
-            setting,
-            number,
-            place,
-            next,
-        } => {
+        Ok(
+            Entry::Refused {
+                setting,
+                number,
+                place,
+                next,
+            },
+        ) => {
             put_refused(answer, setting, number, place, next);
             0
         }
-        Entry::End => {
+        Ok(Entry::End) => {
             put(answer, &[0]);
             0
         }
-        Entry::Stop { number, place } => {
-            put(answer, &[place as u64]);
-            number
-        }
+        Err(e) => refuse(answer, e),
     }
 }
 
@@ -193,5 +180,5 @@ pub fn lora_day_step(
         left,
         settings,
     };
-    tell(day::entry_at(file, place), answer)
+    tell_entry(day::entry_at(file, place), answer)
 }

@@ -1,23 +1,26 @@
 // The five operations for C and Rust, of frames with a header; those of frames without one are in `agreed`, the day's file in
 // `day_file`, the tally in `tallies`. A flag is 0 for off, any other number for on. Each returns 0 for an acceptance, a refusal's
 // number with its place in answer[0], or 255 where `answer` has too few cells, and then nothing is written.
+// The parameters stand one by one, flags as bytes and answers as a number and cells, because C's interface has them so
+// (include/lora.h).
 #![tactic(auto)]
 
-ghost use Rattle.std.specs.Prelude.{◌≡◌, ◌≤◌, length};
-ghost use Rattle.bits.specs.Bit.{as_bit};
+ghost use Rattle.std.specs.Prelude.{List, [], ◌∷◌, ◌≡◌, ℕ, ◌≤◌, length};
 ghost use Rattle.lora.specs.Airtime.{airtime_of};
 ghost use Rattle.lora.specs.Code.{code_of};
 ghost use Rattle.lora.specs.Count.{count_of};
 ghost use Rattle.lora.specs.Head.{head_of};
 ghost use Rattle.lora.specs.Read.{read_of};
 ghost use Rattle.lora.specs.declared.Expected.TheVariants.{Explicit};
-ghost use Rattle.lora_c.specs.Export.{flag_of, explicit_of, cell_of, front, CountExported, TimeExported, HeadExported, CodeExported, ReadExported};
+ghost use Rattle.lora_c.specs.Export.{flag_of, explicit_of, number_of, cells_of, cells_of_number, cells_of_header, cells_of_accepted, front, Exported, NumberExported, HeadExported, CodeExported, ReadExported};
 
 pub mod agreed;
 pub mod day_file;
 pub mod tallies;
 
-use lora::{Counted, Expected, Heading, Kind, Lasting, Received, Settings};
+use header::Header;
+use lora::{Accepted, Expected, Kind, Settings};
+use refusal::Refusal;
 
 // Returned where `answer` has too few cells; no refusal has this number.
 const ANSWER_SHORT: u8 = 255;
@@ -36,92 +39,115 @@ fn explicit(sf: u8, low: u8, cr: u8, checked: u8) -> Settings
     }
 }
 
-// A flag as a cell: 1 for on, 0 for off.
-fn flag(b: bool) -> u64
-    ensures { result ≡ as_bit b }
-{
-    if b { 1 } else { 0 }
-}
-
-// A signed number as a cell: a negative one is 2^64 less its size, as C and Rust turn it back.
-fn signed(n: i8) -> u64
-    ensures { result ≡ cell_of n }
-{
-    if n < 0 {
-        18446744073709551615 - (-1 - n) as u64
-    } else {
-        n as u64
-    }
-}
-
 // Writes the first cells of `answer`.
+#[tactic(auto, unfolding(crate::specs::Export::front))]
 fn put(answer: &mut [u64], cells: &[u64])
     requires { length cells.now ≤ length answer.old }
     ensures { answer.new ≡ front cells.now answer.old }
 {
-    for i in 0..cells.len() {
-        answer[i] = cells[i];
+    answer[..cells.len()].copy_from_slice(cells);
+}
+
+// A refusal as its number, and its place in the first cell.
+fn refuse(answer: &mut [u64], r: Refusal) -> u8
+    requires { 1 ≤ length answer.old }
+    ensures { (result ≡ r.number) × (answer.new ≡ front (r.place ∷ []) answer.old) }
+{
+    put(answer, &[r.place as u64]);
+    r.number
+}
+
+// What an acceptance says, as the cells of `answer`.
+trait Cells<const N: usize>: Drop {
+    ghost cells: { Self → List ℕ };
+
+    fn cells(self) -> [u64; N]
+        ensures { result ≡ cells self };
+}
+
+impl Cells<1> for usize {
+    ghost cells = { cells_of_number };
+
+    fn cells(self) -> [u64; 1] {
+        [self as u64]
+    }
+}
+
+impl Cells<1> for u64 {
+    ghost cells = { cells_of_number };
+
+    fn cells(self) -> [u64; 1] {
+        [self]
+    }
+}
+
+impl Cells<3> for Header {
+    ghost cells = { cells_of_header };
+
+    fn cells(self) -> [u64; 3] {
+        [
+            self.length as u64,
+            u64::from(self.cr),
+            u64::from(self.checked),
+        ]
+    }
+}
+
+// A negative drift is 2^64 less its size, as C and Rust turn it back.
+impl Cells<6> for Accepted {
+    ghost cells = { cells_of_accepted };
+
+    fn cells(self) -> [u64; 6] {
+        [
+            self.length as u64,
+            u64::from(self.cr),
+            u64::from(self.checked),
+            self.symbols as u64,
+            self.repairs as u64,
+            i64::from(self.drift).cast_unsigned(),
+        ]
+    }
+}
+
+// What an operation said as a number and cells: so many are needed as an acceptance has.
+fn tell<const N: usize, T: Cells<N>>(said: Result<T, Refusal>, answer: &mut [u64]) -> u8
+    requires { 1 ≤ N }
+    ensures { Exported N (number_of said) (cells_of T.cells said) answer.old answer.new result }
+{
+    if answer.len() < N {
+        return ANSWER_SHORT;
+    }
+    match said {
+        Ok(a) => {
+            put(answer, &a.cells());
+            0
+        }
+        Err(r) => refuse(answer, r),
     }
 }
 
 // Count's answer as a number and one cell.
 fn count_into(s: Settings, len: usize, answer: &mut [u64]) -> u8
-    ensures { CountExported (count_of s len) answer.old answer.new result }
+    ensures { NumberExported (count_of s len) answer.old answer.new result }
 {
-    if answer.len() < 1 {
-        return ANSWER_SHORT;
-    }
-    let counted = lora::count(s, len);
-    match counted {
-        Counted::Refused { number, place } => {
-            put(answer, &[place as u64]);
-            number
-        }
-        Counted::Symbols { count } => {
-            put(answer, &[count as u64]);
-            0
-        }
-    }
+    tell(lora::count(s, len), answer)
 }
 
 // Airtime's answer as a number and one cell.
 fn airtime_into(s: Settings, len: usize, khz: u16, preamble: u16, answer: &mut [u64]) -> u8
-    ensures { TimeExported (airtime_of s len khz preamble) answer.old answer.new result }
+    ensures { NumberExported (airtime_of s len khz preamble) answer.old answer.new result }
 {
-    if answer.len() < 1 {
-        return ANSWER_SHORT;
-    }
-    let lasting = lora::airtime(s, len, khz, preamble);
-    match lasting {
-        Lasting::Refused { number, place } => {
-            put(answer, &[place as u64]);
-            number
-        }
-        Lasting::Microseconds { time } => {
-            put(answer, &[time]);
-            0
-        }
-    }
+    tell(lora::airtime(s, len, khz, preamble), answer)
 }
 
 // Code's answer as a number and one cell.
 fn code_into(s: Settings, payload: &[u8], out: &mut [u16], answer: &mut [u64]) -> u8
     ensures { CodeExported (code_of s payload.now (length out.old)) s payload.now out.old out.new answer.old answer.new result }
 {
-    if answer.len() < 1 {
+    if answer.is_empty() {
         return ANSWER_SHORT;
     }
-    let counted = lora::code(s, payload, out);
-    match counted {
-        Counted::Refused { number, place } => {
-            put(answer, &[place as u64]);
-            number
-        }
-        Counted::Symbols { count } => {
-            put(answer, &[count as u64]);
-            0
-        }
-    }
+    tell(lora::code(s, payload, out), answer)
 }
 
 // Read's answer as a number and six cells.
@@ -140,31 +166,12 @@ fn read_into(
         return ANSWER_SHORT;
     }
     let received = lora::read(sf, low, expected, symbols, out, hurts);
-    match received {
-        Received::Refused { number, place } => {
-            put(answer, &[place as u64]);
-            number
-        }
-        Received::Payload(a) => {
-            put(
-                answer,
-                &[
-                    a.length as u64,
-                    a.cr as u64,
-                    flag(a.checked),
-                    a.symbols as u64,
-                    a.repairs as u64,
-                    signed(a.drift),
-                ],
-            );
-            0
-        }
-    }
+    tell(received, answer)
 }
 
 // How many symbols a frame has. answer[0] on acceptance: the count.
 pub fn lora_count(sf: u8, low: u8, cr: u8, checked: u8, len: usize, answer: &mut [u64]) -> u8
-    ensures { CountExported (count_of (explicit_of sf low cr checked) len) answer.old answer.new result }
+    ensures { NumberExported (count_of (explicit_of sf low cr checked) len) answer.old answer.new result }
 {
     count_into(explicit(sf, low, cr, checked), len, answer)
 }
@@ -180,7 +187,7 @@ pub fn lora_airtime(
     preamble: u16,
     answer: &mut [u64],
 ) -> u8
-    ensures { TimeExported (airtime_of (explicit_of sf low cr checked) len khz preamble) answer.old answer.new result }
+    ensures { NumberExported (airtime_of (explicit_of sf low cr checked) len khz preamble) answer.old answer.new result }
 {
     airtime_into(explicit(sf, low, cr, checked), len, khz, preamble, answer)
 }
@@ -204,20 +211,7 @@ pub fn lora_code(
 pub fn lora_head(sf: u8, symbols: &[u16], answer: &mut [u64]) -> u8
     ensures { HeadExported (head_of sf symbols.now) answer.old answer.new result }
 {
-    if answer.len() < 3 {
-        return ANSWER_SHORT;
-    }
-    let heading = lora::head(sf, symbols);
-    match heading {
-        Heading::Refused { number, place } => {
-            put(answer, &[place as u64]);
-            number
-        }
-        Heading::Says(h) => {
-            put(answer, &[h.length as u64, h.cr as u64, flag(h.checked)]);
-            0
-        }
-    }
+    tell(lora::head(sf, symbols), answer)
 }
 
 // Reads a frame's payload into the lent bytes, and into the lent list how many bits were repaired in each of its symbols. answer

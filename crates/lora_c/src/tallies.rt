@@ -1,119 +1,92 @@
 // A tally for C and Rust, in the first 16 cells of a lent array: heard, accepted clean, accepted repaired, and refused under the
 // numbers 0 to 12. Each call returns 0; or a refusal's number, whose place is 0; or 255 where a list has too few cells. Unless it
 // returns 0, nothing is written.
-ghost use Rattle.std.specs.Prelude.{true, ◌&&◌, ◌≡◌, ◌≤◌, ◌<◌, length};
-ghost use Rattle.bits.specs.Tab.{tab, over};
+ghost use Rattle.std.specs.Prelude.{true, ◌&&◌, ◌≡◌, ◌≤◌, length};
+ghost use Rattle.bits.specs.Tab.{over};
 ghost use Rattle.tally.specs.Tally.{clear_of, hear_of, take_in_of};
-ghost use Rattle.lora_c.specs.TallyExport.{cell_of, refused_at, tally_in, outcome_in, is_tally, is_outcome, code_of_answer, cells_after, TallyExported};
+ghost use Rattle.lora_c.specs.Export.{number_of};
+ghost use Rattle.lora_c.specs.TallyExport.{cell_of, tally_in, outcome_in, is_tally, is_outcome, cells_after, TallyExported};
 
 use crate::ANSWER_SHORT;
 use lora::{Accepted, Received};
-use tally::{Answer, Noted, Tally};
+use refusal::Refusal;
+use tally::Tally;
 
 // The cells of a tally.
 const CELLS: usize = 16;
-
-fn cell_of(t: Tally, i: usize) -> u32
-    requires { i < 16 }
-    ensures { result ≡ cell_of t i }
-{
-    let refused = t.refused;
-    if i == 0 {
-        return t.heard;
-    }
-    if i == 1 {
-        return t.clean;
-    }
-    if i == 2 {
-        return t.repaired;
-    }
-    refused[i - 3]
-}
 
 fn put_tally(t: Tally, cells: &mut [u32])
     requires { 16 ≤ length cells.old }
     ensures { cells.new ≡ over 16 (cell_of t) cells.old }
 {
-    for i in 0..CELLS {
-        cells[i] = cell_of(t, i);
-    }
-}
-
-fn refused_in(cells: &[u32]) -> [u32; 13]
-    requires { 16 ≤ length cells.now }
-    ensures { result ≡ tab 13 (refused_at cells.now) }
-{
-    let mut refused = [0u32; 13];
-    for n in 0..13usize {
-        refused[n] = cells[3 + n];
-    }
-    refused
+    cells[..3].copy_from_slice(&[t.heard, t.clean, t.repaired]);
+    cells[3..CELLS].copy_from_slice(&t.refused);
 }
 
 fn tally_in(cells: &[u32]) -> Tally
     requires { 16 ≤ length cells.now }
     ensures { result ≡ tally_in cells.now }
 {
+    let mut refused = [0u32; 13];
+    refused.copy_from_slice(&cells[3..CELLS]);
     Tally {
         heard: cells[0],
         clean: cells[1],
         repaired: cells[2],
-        refused: refused_in(cells),
+        refused,
     }
 }
 
 // Whether the cells that are looked at are there.
+#[tactic(auto, unfolding(crate::specs::TallyExport::is_outcome))]
 fn is_outcome(number: u8, answer: &[u64]) -> bool
     ensures { result ≡ is_outcome number answer.now }
 {
-    if number == 0 {
-        return 6 <= answer.len();
-    }
-    true
+    number != 0 || 6 <= answer.len()
 }
 
 // The outcome of which read returned the number and left the cells, as a tally looks at it: by its number or its repairs.
+#[tactic(auto, unfolding(crate::specs::TallyExport::is_outcome, crate::specs::TallyExport::outcome_in))]
 fn outcome_in(number: u8, answer: &[u64]) -> Received
     requires { is_outcome number answer.now ≡ true }
     ensures { result ≡ outcome_in number answer.now }
 {
-    if number == 0 {
-        return Received::Payload(Accepted {
-            length: 0,
-            cr: 0,
-            checked: false,
-            symbols: 0,
-            repairs: answer[4] as usize,
-            drift: 0,
-        });
+    if number != 0 {
+        return Err(Refusal { number, place: 0 });
     }
-    Received::Refused { number, place: 0 }
+    Ok(Accepted {
+        length: 0,
+        cr: 0,
+        checked: false,
+        symbols: 0,
+        repairs: answer[4] as usize,
+        drift: 0,
+    })
 }
 
-// What was noted, as a number and the cells.
-fn note(n: Noted, cells: &mut [u32]) -> u8
+// What a call said, as a number and the cells.
+fn note(said: Result<Tally, Refusal>, cells: &mut [u32]) -> u8
     requires { 16 ≤ length cells.old }
-    ensures { (result ≡ code_of_answer n.answer) × (cells.new ≡ cells_after n.answer n.tally cells.old) }
+    ensures { (result ≡ number_of said) × (cells.new ≡ cells_after said cells.old) }
 {
-    let tally = n.tally;
-    let answer = n.answer;
-    match answer {
-        Answer::Done => {
-            put_tally(tally, cells);
+    match said {
+        Ok(t) => {
+            put_tally(t, cells);
             0
         }
-        Answer::Refused { number, place: _ } => number,
+        Err(r) => r.number,
     }
 }
 
 // Clears a tally.
 pub fn lora_tally_clear(cells: &mut [u32]) -> u8
-    ensures { TallyExported (is_tally cells.old) (clear_of (tally_in cells.old)) cells.old cells.new result }
+    ensures { TallyExported (is_tally cells.old) (Ok (clear_of (tally_in cells.old))) cells.old cells.new result }
 {
     if cells.len() < CELLS {
         return ANSWER_SHORT;
     }
-    note(tally::cleared(tally_in(cells)), cells)
+    put_tally(tally::none(), cells);
+    0
 }
 
 // Hears an outcome: the number that read returned, and the cells of `answer` as read left them.

@@ -2,13 +2,9 @@
 // line that lora_lines reads, in order. An empty last piece is none.
 #![tactic(auto)]
 
-use system::Asked;
+use lines::Progress;
 
-fn help(rt: &HostRuntime) {
-    system::write_all(
-        rt,
-        &mut rt.stdout(),
-        b"\
+const HELP: &str = "\
 lora_code < wishes > captures
 
 Makes LoRa frames, one a line: SF, low rate (0 or 1), CR (1 to 4), checksum (0 or 1), then the payload in hex, - if empty,
@@ -20,21 +16,13 @@ Each line is answered by one line, in order:
   no NUMBER PLACE                             docs/REFUSALS.md says what each number means
 The last line on standard error is 'end TEXTS MADE 0 REFUSED' if all was read and written, and else says what broke the
 run off.
-",
-    );
-}
+";
 
 fn main(rt: HostRuntime) {
-    let asked = system::arguments(&rt);
-    match asked {
-        Asked::Work => {
-            filter::run(&rt, lines::wishes());
-        }
-        Asked::Help => {
-            help(&rt);
-        }
-        Asked::Other => {
-            system::say(&rt, b"lora_code takes no argument but --help\n");
-        }
-    }
+    system::serve(
+        &rt,
+        "lora_code",
+        HELP,
+        || filter::run(&rt, Progress::wishes()),
+    );
 }

@@ -4,7 +4,7 @@ ghost use Rattle.lora.specs.Airtime.{airtime_of};
 ghost use Rattle.lora.specs.Code.{code_of};
 ghost use Rattle.lora.specs.Count.{count_of};
 ghost use Rattle.lora.specs.Read.{read_of};
-ghost use Rattle.lora_c.specs.Export.{flag_of, agreed_of, expected_of, CountExported, TimeExported, CodeExported, ReadExported};
+ghost use Rattle.lora_c.specs.Export.{flag_of, agreed_of, expected_of, NumberExported, CodeExported, ReadExported};
 
 // How many symbols a frame has. answer[0] on acceptance: the count.
 #[unsafe(no_mangle)]
@@ -17,7 +17,7 @@ pub extern "C" fn lora_count_agreed(
     len: usize,
     answer: &mut [u64],
 ) -> u8
-    ensures { CountExported (count_of (agreed_of sf low agreed cr checked) len) answer.old answer.new result }
+    ensures { NumberExported (count_of (agreed_of sf low agreed cr checked) len) answer.old answer.new result }
 {
     lora_c::agreed::lora_count_agreed(sf, low, agreed, cr, checked, len, answer)
 }
@@ -35,7 +35,7 @@ pub extern "C" fn lora_airtime_agreed(
     preamble: u16,
     answer: &mut [u64],
 ) -> u8
-    ensures { TimeExported (airtime_of (agreed_of sf low agreed cr checked) len khz preamble) answer.old answer.new result }
+    ensures { NumberExported (airtime_of (agreed_of sf low agreed cr checked) len khz preamble) answer.old answer.new result }
 {
     lora_c::agreed::lora_airtime_agreed(sf, low, agreed, cr, checked, len, khz, preamble, answer)
 }

@@ -9,7 +9,7 @@ ghost use Rattle.lora.specs.Count.{count_of};
 ghost use Rattle.lora.specs.Head.{head_of};
 ghost use Rattle.lora.specs.Read.{read_of};
 ghost use Rattle.lora.specs.declared.Expected.TheVariants.{Explicit};
-ghost use Rattle.lora_c.specs.Export.{flag_of, explicit_of, CountExported, TimeExported, HeadExported, CodeExported, ReadExported};
+ghost use Rattle.lora_c.specs.Export.{flag_of, explicit_of, NumberExported, HeadExported, CodeExported, ReadExported};
 
 mod agreed;
 mod day_file;
@@ -25,7 +25,7 @@ pub extern "C" fn lora_count(
     len: usize,
     answer: &mut [u64],
 ) -> u8
-    ensures { CountExported (count_of (explicit_of sf low cr checked) len) answer.old answer.new result }
+    ensures { NumberExported (count_of (explicit_of sf low cr checked) len) answer.old answer.new result }
 {
     lora_c::lora_count(sf, low, cr, checked, len, answer)
 }
@@ -42,7 +42,7 @@ pub extern "C" fn lora_airtime(
     preamble: u16,
     answer: &mut [u64],
 ) -> u8
-    ensures { TimeExported (airtime_of (explicit_of sf low cr checked) len khz preamble) answer.old answer.new result }
+    ensures { NumberExported (airtime_of (explicit_of sf low cr checked) len khz preamble) answer.old answer.new result }
 {
     lora_c::lora_airtime(sf, low, cr, checked, len, khz, preamble, answer)
 }

@@ -6,7 +6,7 @@ ghost use Rattle.lora_c.specs.TallyExport.{tally_in, outcome_in, is_tally, is_ou
 // Clears a tally.
 #[unsafe(no_mangle)]
 pub extern "C" fn lora_tally_clear(cells: &mut [u32]) -> u8
-    ensures { TallyExported (is_tally cells.old) (clear_of (tally_in cells.old)) cells.old cells.new result }
+    ensures { TallyExported (is_tally cells.old) (Ok (clear_of (tally_in cells.old))) cells.old cells.new result }
 {
     lora_c::tallies::lora_tally_clear(cells)
 }

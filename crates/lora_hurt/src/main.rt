@@ -2,13 +2,9 @@
 // capture, as lora_lines takes it, answered by one line, in order. An empty last piece is none.
 #![tactic(auto)]
 
-use system::Asked;
+use lines::Progress;
 
-fn help(rt: &HostRuntime) {
-    system::write_all(
-        rt,
-        &mut rt.stdout(),
-        b"\
+const HELP: &str = "\
 lora_hurt < captures > hurts
 
 Says which chirps of LoRa frames were hurt. Takes frames as lora_lines does, one a line: SF, low rate (0 or 1), then the
@@ -18,21 +14,13 @@ front. Each line is answered by one line, in order:
   no NUMBER PLACE                  docs/REFUSALS.md says what each number means
 The last line on standard error is 'end TEXTS CLEAN REPAIRED REFUSED' if all was read and written, 'full' in place of 'end'
 if over 4294967295 frames were heard and so not all were counted, and else says what broke the run off.
-",
-    );
-}
+";
 
 fn main(rt: HostRuntime) {
-    let asked = system::arguments(&rt);
-    match asked {
-        Asked::Work => {
-            filter::run(&rt, lines::hurts());
-        }
-        Asked::Help => {
-            help(&rt);
-        }
-        Asked::Other => {
-            system::say(&rt, b"lora_hurt takes no argument but --help\n");
-        }
-    }
+    system::serve(
+        &rt,
+        "lora_hurt",
+        HELP,
+        || filter::run(&rt, Progress::hurts()),
+    );
 }

@@ -1,22 +1,17 @@
 -- What the turns of the loop hand on: the bytes that a read left are taken whole into the text.
 -- Assumes nothing.
-use Rattle.std.specs.Prelude.{List, ◌≡◌, ℕ, take}
-use Rattle.system.specs.declared.Got.{Got}
-use Rattle.system.specs.declared.Got.TheVariants.{Bytes, End, Failed}
-use Rattle.text.specs.Scan.{State, start, run, Holds}
-use Rattle.text.specs.declared.Scan.{Scan}
-use Rattle.lora_read.specs.declared.Turn.{Turn}
-use Rattle.lora_read.specs.declared.Turn.TheVariants.{More, Ended, Unread}
+use Rattle.std.specs.Prelude.{Bool, true, false, List, Result, Ok, Err, ◌≡◌, ℕ, take}
+use Rattle.std.specs.declared.io.Error.{Error}
+use Rattle.text.specs.Scan.{State, run}
 
 -- after a read: the text goes on with exactly the bytes that it left; it has ended where the read came to the end, and is as it
 -- was; it has failed where the read did
-abbrev pub Follows : Turn → Got → Scan → State → List ℕ → List ℕ → Type 0
-Follows (More later) got scan s buffer numbers = (n : ℕ) × (got ≡ Bytes n) × Holds (run s (take n buffer)) later numbers
-Follows (Ended last) got scan s buffer numbers = (got ≡ End) × (last ≡ scan) × Holds s last numbers
-Follows (Unread error) got scan s buffer numbers = got ≡ Failed error
+abbrev pub Follows : Result Bool Error → Result ℕ Error → State → List ℕ → State → Type 0
+Follows (Ok true) got s buffer later = (n : ℕ) × (got ≡ Ok n) × (later ≡ run s (take n buffer))
+Follows (Ok false) got s buffer later = (got ≡ Ok 0) × (later ≡ s)
+Follows (Err error) got s buffer later = got ≡ Err error
 
--- a text that has ended is some text from its beginning on
-abbrev pub Finished : Turn → List ℕ → Type 0
-Finished (More scan) numbers = ⊥
-Finished (Ended scan) numbers = (bytes : List ℕ) × Holds (run start bytes) scan numbers
-Finished (Unread error) numbers = Unit
+-- a text that has ended went on with some bytes
+abbrev pub Finished : Result Unit Error → State → State → Type 0
+Finished (Ok done) s later = (bytes : List ℕ) × (later ≡ run s bytes)
+Finished (Err error) s later = Unit

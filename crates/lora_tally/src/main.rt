@@ -2,13 +2,9 @@
 // takes it. No piece is answered by a line; at the end the panel says how many were heard, accepted and refused.
 #![tactic(auto)]
 
-use system::Asked;
+use lines::Progress;
 
-fn help(rt: &HostRuntime) {
-    system::write_all(
-        rt,
-        &mut rt.stdout(),
-        b"\
+const HELP: &str = "\
 lora_tally < captures > panel
 
 Counts what came of LoRa frames. Takes frames as lora_lines does, one a line: SF, low rate (0 or 1), then the symbols, in
@@ -22,21 +18,13 @@ At the end of the input the panel is written, always all of its 16 lines:
   not counted, 17: COUNT         frames for which the tally had no room, behind 4294967295
 The last line on standard error is 'end TEXTS CLEAN REPAIRED REFUSED' if all was read and written, 'full' in place of 'end'
 if some frame was not counted, and else says what broke the run off; then no whole panel was written.
-",
-    );
-}
+";
 
 fn main(rt: HostRuntime) {
-    let asked = system::arguments(&rt);
-    match asked {
-        Asked::Work => {
-            filter::run(&rt, lines::tallies());
-        }
-        Asked::Help => {
-            help(&rt);
-        }
-        Asked::Other => {
-            system::say(&rt, b"lora_tally takes no argument but --help\n");
-        }
-    }
+    system::serve(
+        &rt,
+        "lora_tally",
+        HELP,
+        || filter::run(&rt, Progress::tallies()),
+    );
 }

@@ -1,15 +1,15 @@
 -- What came of a run's texts, counted, and the line that says so at the end of a run.
 -- Assumes nothing.
-use Rattle.std.specs.Prelude.{cond, List, [], ◌∷◌, ◌++◌, ◌≡◌, ℕ, ◌+◌, eqb, leb, ltb}
+use Rattle.std.specs.Prelude.{cond, List, [], ◌∷◌, ◌++◌, ◌≡◌, ℕ, ◌+◌, eqb, leb, ltb, Result, Ok, Err}
+use Rattle.std.specs.Result.{result_unwrap_or}
 use Rattle.bits.specs.Sum.{sum}
 use Rattle.line.specs.Line.{field}
 use Rattle.line.specs.declared.Outcome.{Outcome}
 use Rattle.line.specs.declared.Outcome.TheVariants.{Heard, Made, Unmade}
 use Rattle.tally.specs.History.{History, Ran}
+use Rattle.refusal.specs.declared.Refusal.{Refusal}
 use Rattle.tally.specs.Tally.{empty, hear_of}
-use Rattle.tally.specs.declared.Answer.{Answer}
-use Rattle.tally.specs.declared.Answer.TheVariants.{Done, Refused}
-use Rattle.tally.specs.declared.Noted.{Noted}
+use Rattle.tally.specs.declared.Tally.{Tally}
 use Rattle.panel.specs.declared.Counts.{Counts}
 
 -- no text yet
@@ -27,18 +27,18 @@ abbrev pub capped : ℕ → ℕ
 capped n = cond (leb n largest) n largest
 
 -- the tally's answer to an outcome: with 16 the text was refused with no reading, with anything else the tally had no room
-abbrev pub refused_by : Answer → ℕ → ℕ
-refused_by Done n = n
-refused_by (Refused number place) n = cond (eqb number 16) (more n) n
+abbrev pub refused_by : Result Tally Refusal → ℕ → ℕ
+refused_by (Ok t) n = n
+refused_by (Err e) n = cond (eqb e.number 16) (more n) n
 
-abbrev pub over_by : Answer → ℕ → ℕ
-over_by Done n = n
-over_by (Refused number place) n = cond (eqb number 16) n (more n)
+abbrev pub over_by : Result Tally Refusal → ℕ → ℕ
+over_by (Ok t) n = n
+over_by (Err e) n = cond (eqb e.number 16) n (more n)
 
 -- a capture's outcome, as the tally took it or refused it
-unfoldable pub noting : Counts → Noted → Counts
+unfoldable pub noting : Counts → Result Tally Refusal → Counts
 noting c said =
-    record { texts = more c.texts; tally = said.tally; made = c.made; refused = refused_by said.answer c.refused; over = over_by said.answer c.over }
+    record { texts = more c.texts; tally = result_unwrap_or said c.tally; made = c.made; refused = refused_by said c.refused; over = over_by said c.over }
 
 -- a text answered: what read said of a capture goes into the tally; a frame was made; a wish was refused
 abbrev pub counted : Counts → Outcome → Counts

@@ -32,9 +32,13 @@ check_lines cells =
     ++ (panel_line words11 (get_or cells 11 0)
     ++ panel_line words12 (get_or cells 12 0)))
 
+-- all of them
+unfoldable pub refused_lines : List ℕ → List ℕ
+refused_lines cells = call_lines cells ++ (symbol_lines cells ++ check_lines cells)
+
 -- counted beside the tally: texts that are no capture, and outcomes for which it had no room
 unfoldable pub beside_lines : Counts → List ℕ
 beside_lines c = panel_line words14 c.refused ++ panel_line words17 c.over
 
 unfoldable pub panel_of : Counts → List ℕ
-panel_of c = accepted_lines c.tally ++ (call_lines c.tally.refused ++ (symbol_lines c.tally.refused ++ (check_lines c.tally.refused ++ beside_lines c)))
+panel_of c = accepted_lines c.tally ++ (refused_lines c.tally.refused ++ beside_lines c)

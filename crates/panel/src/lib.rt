@@ -7,12 +7,13 @@ ghost use Rattle.bits.specs.Sum.{sum};
 ghost use Rattle.put.specs.Put.{Put};
 ghost use Rattle.tally.specs.Tally.{hear_of};
 ghost use Rattle.panel.specs.Counts.{none, more, capped, refused_by, over_by, noting, counted, end_word, clean_in, refused_in, closing_line};
-ghost use Rattle.panel.specs.Panel.{panel_line, accepted_lines, call_lines, symbol_lines, check_lines, beside_lines, panel_of};
+ghost use Rattle.panel.specs.Panel.{panel_line, accepted_lines, refused_lines, beside_lines, panel_of};
 
-use line::{Outcome, put_field, put_words};
+use line::{Outcome, put_field};
 use lora::Received;
-use put::put;
-use tally::{Answer, Tally};
+use put::{put, put_words};
+use refusal::Refusal;
+use tally::Tally;
 
 // What came of the texts of a run: how many were answered; what read said of the captures; how many frames were made; how many
 // texts were refused with no reading, bad ones and wishes; for how many outcomes the tally had no room.
@@ -41,49 +42,33 @@ pub fn nothing() -> Counts
 pub fn one_more(n: usize) -> usize
     ensures { result ≡ more n }
 {
-    if n < usize::MAX { n + 1 } else { n }
+    n.saturating_add(1)
 }
 
 // So many and so many more, up to the largest number there is.
 pub fn together(a: usize, b: usize) -> usize
     ensures { result ≡ capped (a + b) }
 {
-    if b <= usize::MAX - a {
-        a + b
-    } else {
-        usize::MAX
-    }
+    a.saturating_add(b)
 }
 
 // A text that is no capture: the tally says that read gives no such outcome.
-fn refused_by(answer: Answer, refused: usize) -> usize
-    ensures { result ≡ refused_by answer refused }
+fn refused_by(said: Result<Tally, Refusal>, refused: usize) -> usize
+    ensures { result ≡ refused_by said refused }
 {
-    match answer {
-        Answer::Done => refused,
-        Answer::Refused { number, place: _ } => {
-            if number == refusal::NO_OUTCOME {
-                one_more(refused)
-            } else {
-                refused
-            }
-        }
+    match said {
+        Err(e) if e.number == refusal::NO_OUTCOME => one_more(refused),
+        _ => refused,
     }
 }
 
 // An outcome for which the tally had no room.
-fn over_by(answer: Answer, over: usize) -> usize
-    ensures { result ≡ over_by answer over }
+fn over_by(said: Result<Tally, Refusal>, over: usize) -> usize
+    ensures { result ≡ over_by said over }
 {
-    match answer {
-        Answer::Done => over,
-        Answer::Refused { number, place: _ } => {
-            if number == refusal::NO_OUTCOME {
-                over
-            } else {
-                one_more(over)
-            }
-        }
+    match said {
+        Err(e) if e.number != refusal::NO_OUTCOME => one_more(over),
+        _ => over,
     }
 }
 
@@ -91,16 +76,13 @@ fn over_by(answer: Answer, over: usize) -> usize
 fn hear(c: Counts, received: Received) -> Counts
     ensures { result ≡ noting c (hear_of c.tally received) }
 {
-    let old = c.tally;
-    let said = tally::hearing(old, received);
-    let new = said.tally;
-    let answer = said.answer;
+    let said = tally::hearing(c.tally, received);
     Counts {
         texts: one_more(c.texts),
-        tally: new,
+        tally: said.unwrap_or(c.tally),
         made: c.made,
-        refused: refused_by(answer, c.refused),
-        over: over_by(answer, c.over),
+        refused: refused_by(said, c.refused),
+        over: over_by(said, c.over),
     }
 }
 
@@ -128,17 +110,12 @@ pub fn count_in(c: Counts, outcome: Outcome) -> Counts
     }
 }
 
-fn wide32(x: u32) -> usize
-    ensures { result ≡ x }
-{
-    x as usize
-}
-
+// The tally's numbers by `as`: no From makes a usize of 32 bits or of 64.
 fn clean_in(c: Counts) -> usize
     ensures { result ≡ clean_in c }
 {
     let tally = c.tally;
-    together(wide32(tally.clean), c.made)
+    together(tally.clean as usize, c.made)
 }
 
 fn refused_in(c: Counts) -> usize
@@ -169,7 +146,7 @@ pub fn closing(c: Counts, out: &mut [u8]) -> usize
     let after_end = put_end(out, c.over);
     let after_texts = put_field(out, after_end, c.texts);
     let after_clean = put_field(out, after_texts, clean_in(c));
-    let after_repaired = put_field(out, after_clean, wide32(tally.repaired));
+    let after_repaired = put_field(out, after_clean, tally.repaired as usize);
     let after_refused = put_field(out, after_repaired, refused_in(c));
     put(out, after_refused, 10)
 }
@@ -190,71 +167,36 @@ fn put_accepted(out: &mut [u8], at: usize, t: Tally) -> usize
     requires { at + 150 ≤ length out.old }
     ensures { Put at (accepted_lines t) out.old out.new result × (result ≤ at + 150) }
 {
-    let after_heard = put_line(out, at, b"frames heard", wide32(t.heard));
-    let after_clean = put_line(out, after_heard, b"accepted clean", wide32(t.clean));
-    put_line(out, after_clean, b"accepted repaired", wide32(t.repaired))
+    let after_heard = put_line(out, at, b"frames heard", t.heard as usize);
+    let after_clean = put_line(out, after_heard, b"accepted clean", t.clean as usize);
+    put_line(out, after_clean, b"accepted repaired", t.repaired as usize)
 }
 
-// Refused for what the call asks.
-fn put_calls(out: &mut [u8], at: usize, cells: [u32; 13]) -> usize
-    requires { at + 200 ≤ length out.old }
-    ensures { Put at (call_lines cells) out.old out.new result × (result ≤ at + 200) }
-{
-    let after_1 = put_line(out, at, b"refused 1, SF not 7 to 12", wide32(cells[1]));
-    let after_2 = put_line(out, after_1, b"refused 2, CR not 1 to 4", wide32(cells[2]));
-    let after_3 = put_line(
-        out,
-        after_2,
-        b"refused 3, length above 255",
-        wide32(cells[3]),
-    );
-    put_line(out, after_3, b"refused 4, room too short", wide32(cells[4]))
-}
+// What the panel calls a refusal of read, and the refusal's number.
+const REFUSALS: [(&[u8], u8); 11] = [
+    (b"refused 1, SF not 7 to 12", refusal::BAD_SF),
+    (b"refused 2, CR not 1 to 4", refusal::BAD_CR),
+    (b"refused 3, length above 255", refusal::TOO_LONG),
+    (b"refused 4, room too short", refusal::OUT_SHORT),
+    (b"refused 5, too few symbols", refusal::FEW_SYMBOLS),
+    (b"refused 6, symbol too large", refusal::SYMBOL_OVER),
+    (b"refused 7, codeword not readable", refusal::UNREADABLE),
+    (b"refused 9, header check wrong", refusal::HEADER_CHECK),
+    (b"refused 10, header bit set", refusal::HEADER_BIT),
+    (b"refused 11, header CR unknown", refusal::HEADER_CR),
+    (b"refused 12, payload checksum wrong", refusal::CHECKSUM),
+];
 
-// Refused for the symbols.
-fn put_symbols(out: &mut [u8], at: usize, cells: [u32; 13]) -> usize
-    requires { at + 200 ≤ length out.old }
-    ensures { Put at (symbol_lines cells) out.old out.new result × (result ≤ at + 200) }
+// Refused under each number that read gives.
+fn put_refused(out: &mut [u8], at: usize, cells: [u32; 13]) -> usize
+    requires { at + 650 ≤ length out.old }
+    ensures { Put at (refused_lines cells) out.old out.new result × (result ≤ at + 650) }
 {
-    let after_5 = put_line(out, at, b"refused 5, too few symbols", wide32(cells[5]));
-    let after_6 = put_line(
-        out,
-        after_5,
-        b"refused 6, symbol too large",
-        wide32(cells[6]),
-    );
-    put_line(
-        out,
-        after_6,
-        b"refused 7, codeword not readable",
-        wide32(cells[7]),
-    )
-}
-
-// Refused for the header or the payload's checksum.
-fn put_checks(out: &mut [u8], at: usize, cells: [u32; 13]) -> usize
-    requires { at + 250 ≤ length out.old }
-    ensures { Put at (check_lines cells) out.old out.new result × (result ≤ at + 250) }
-{
-    let after_9 = put_line(out, at, b"refused 9, header check wrong", wide32(cells[9]));
-    let after_10 = put_line(
-        out,
-        after_9,
-        b"refused 10, header bit set",
-        wide32(cells[10]),
-    );
-    let after_11 = put_line(
-        out,
-        after_10,
-        b"refused 11, header CR unknown",
-        wide32(cells[11]),
-    );
-    put_line(
-        out,
-        after_11,
-        b"refused 12, payload checksum wrong",
-        wide32(cells[12]),
-    )
+    let mut next = at;
+    for (words, number) in REFUSALS {
+        next = put_line(out, next, words, cells[usize::from(number)] as usize);
+    }
+    next
 }
 
 // Counted beside the tally.
@@ -274,8 +216,6 @@ pub fn put_panel(out: &mut [u8], at: usize, c: Counts) -> usize
     let tally = c.tally;
     let cells = tally.refused;
     let after_accepted = put_accepted(out, at, tally);
-    let after_calls = put_calls(out, after_accepted, cells);
-    let after_symbols = put_symbols(out, after_calls, cells);
-    let after_checks = put_checks(out, after_symbols, cells);
-    put_beside(out, after_checks, c)
+    let after_refused = put_refused(out, after_accepted, cells);
+    put_beside(out, after_refused, c)
 }

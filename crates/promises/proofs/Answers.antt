@@ -17,12 +17,12 @@ use Rattle.lora.specs.Code.{sent_nibble}
 use Rattle.lora.specs.Count.{expected_of, frame_of}
 use Rattle.lora.specs.Read.{hurt_found, bytes_after, hurts_after, Reading}
 use Rattle.lora.specs.declared.Settings.{Settings}
-use Rattle.lora.specs.declared.Received.{Received}
-use Rattle.lora.specs.declared.Received.TheVariants.{Refused}
+use Rattle.lora.specs.Received.{Received}
 use Rattle.reading.specs.Found.{found_at, unreadable_at, repaired_at, nibble_at, repaired_in, hurt_at}
 use Rattle.promises.specs.Damage.{read_words, changed_in, changed_by_symbol, hurt, Returned, RefusedAt, ReturnedUnless}
 use Rattle.promises.proofs.Near.{Sent}
 use Rattle.promises.proofs.Outcome.{read-refused, read_whole, cells_are}
+use Rattle.refusal.specs.Refusal.{refuse}
 
 -- what a codeword is found to be: it can't be read exactly where the test holds, and else its nibble comes back, repaired exactly
 -- where it has a changed bit, and in the symbol that changed it
@@ -67,7 +67,7 @@ module _ (test : ℕ → Bool) (s : Settings) (payload arrived old new hurts hur
   refused i h holds before =
       let at : first (unreadable_at (found_at (frame_of s) arrived)) (read_words s payload) 0 ≡ i
       = first-is _ (read_words s payload) 0 i (omega arith) (omega arith) ((each i h).unreadable ∙ holds) (λ k a b. (each k (omega arith)).unreadable ∙ before k b) in
-      let says : answer ≡ Refused 7 i
+      let says : answer ≡ refuse 7 i
       = reading.answer ∙ rw at at (read-refused s payload arrived p enough below good (length old) (length hurts) fits lists (rw at h)) in
       record {
         says = says;

@@ -8,7 +8,7 @@ use native.Mathlib.Omega.{arith}
 use lib.Dec.{leb, eqb}
 use lib.ListN.{length, get_or}
 use borrow.Author.Tests.{leb-true, leb-false, le-leb, lt-leb, ne_eqb}
-use Rattle.bits.proofs.Tabs.{get_d_over}
+use Rattle.bits.proofs.Tabs.{get_or-over}
 use Rattle.codeword.specs.Codeword.{is_unreadable, is_repaired, nibble_of}
 use Rattle.codeword.specs.Found.{Found, unreadable}
 use Rattle.layout.specs.Layout.{block_of_codeword, symbols_of}
@@ -16,18 +16,18 @@ use Rattle.layout.proofs.LayoutLaws.{block-of-read}
 use Rattle.lora.specs.Code.{sent_nibble, sent_symbol, Coding}
 use Rattle.lora.specs.Count.{cr_of, frame_of}
 use Rattle.lora.specs.declared.Settings.{Settings}
-use Rattle.lora.specs.declared.Counted.TheVariants.{Symbols}
-use Rattle.lora.specs.declared.Received.{Received}
+use Rattle.lora.specs.Received.{Received}
 use Rattle.lora.proofs.CountLaws.{coded}
 use Rattle.reading.specs.Found.{found_at, repaired_in}
 use Rattle.promises.specs.Damage.{read_words, block_for, changed_bits, changed_in, FewSymbols, FewValues, FewBits, Passed, hurt, hurt_after_first, hurt_twice, ReturnedUnless}
 use Rattle.promises.proofs.Near.{Sent, changed-le, values-le, found_none, found-repaired, found-unreadable, found-double, marks-none, marks-one, rate-in-first, rate-in-later}
 use Rattle.promises.proofs.Answers.{FoundAs, answered}
+use Rattle.std.specs.Prelude.{Ok}
 
 -- the cells that code wrote are the frame
-pub frame-cells : (s : Settings) (payload old sent : List ℕ) (count : ℕ) → Coding s payload old sent (Symbols count)
+pub frame-cells : (s : Settings) (payload old sent : List ℕ) (count : ℕ) → Coding s payload old sent (Ok count)
     → (t : ℕ) → t < count → get_or sent t 0 ≡ sent_symbol (frame_of s) payload t
-frame-cells s payload old sent count c t h = rw c.cells (get_d_over count (sent_symbol (frame_of s) payload) old t 0 h)
+frame-cells s payload old sent count c t h = rw c.cells (get_or-over count (sent_symbol (frame_of s) payload) old t 0 h)
 
 -- a number that is at most 2 is 0, 1 or 2
 pub by_bits : {A : Type 0} (n : ℕ) → n ≤ 2 → (n ≡ 0 → A) → (n ≡ 1 → A) → (n ≡ 2 → A) → A
@@ -63,7 +63,7 @@ module _ {s : Settings} {payload old sent : List ℕ} {count : ℕ} {arrived buf
   pub sender : Sent s payload
   sender =
       let k = (coded s payload (length old) count (sym c.coded.answer)).0 in
-      record { valid = k.settings; short = k.short; counted = k.said ∙ ap Symbols k.is; bytes = c.bytes }
+      record { valid = k.settings; short = k.short; counted = k.said ∙ ap Ok k.is; bytes = c.bytes }
 
   pub counts : count ≡ symbols_of (frame_of s) (length payload)
   counts = (coded s payload (length old) count (sym c.coded.answer)).0.is

@@ -7,7 +7,7 @@ use Prim.Native.Nat.{ℕ, ◌≤◌, ◌<◌}
 use native.Mathlib.Omega.{arith}
 use Rattle.lora.specs.Count.{cr_of}
 use Rattle.lora.specs.declared.Settings.{Settings}
-use Rattle.lora.specs.declared.Received.{Received}
+use Rattle.lora.specs.Received.{Received}
 use Rattle.promises.specs.Damage.{read_words, block_for, changed_bits, FewSymbols, FewValues, FewBits, Passed, hurt_after_first, hurt_twice, Returned, ReturnedUnless}
 use Rattle.promises.proofs.Answers.{FoundAs, never}
 use Rattle.promises.proofs.Codewords.{by_bits, by-rate, few-values, few_bits, answered-by, clean, repaired, lost-by-one, lost-by-two, hurt-none, hurt-some, after_first, in-first, twice}

@@ -27,9 +27,7 @@ use Rattle.lora.specs.Read.{frame_said, accepted_of, Reading}
 use Rattle.lora.specs.declared.Expected.{Expected}
 use Rattle.lora.specs.declared.Accepted.{Accepted}
 use Rattle.lora.specs.declared.Settings.{Settings}
-use Rattle.lora.specs.declared.Counted.TheVariants.{Symbols}
-use Rattle.lora.specs.declared.Received.{Received}
-use Rattle.lora.specs.declared.Received.TheVariants.{Payload}
+use Rattle.lora.specs.Received.{Received}
 use Rattle.lora.proofs.AnswerLaws.{accepts}
 use Rattle.lora.proofs.CountLaws.{coded}
 use Rattle.promises.specs.Damage.{read_words, block_at, value_in, changed_values, changed_bits, changed_in, changed_by_symbol, FewValues, Passed, hurt}
@@ -39,6 +37,7 @@ use Rattle.promises.proofs.Codewords.{sender, counts, frame-cells, few_bits, ans
 use Rattle.reading.specs.Found.{repaired_in}
 use Rattle.promises.proofs.Near.{found_none, marks-none}
 use Rattle.promises.proofs.Unchanged.{below-limit}
+use Rattle.std.specs.Prelude.{Ok}
 
 -- a block at the four-wide spacing has SF - 2 rows
 spaced-rows : (F : Frame) (b : ℕ) → (block_of F b).spaced ≡ true → (block_of F b).rows ≡ F.sf - 2
@@ -52,7 +51,7 @@ unfolding is_spaced block_at block_of_symbol block_of first_block
 first-spaced s = refl
 
 -- a symbol that was sent at it was made of its block's codewords
-sent-spaced : {s : Settings} {payload old sent : List ℕ} {count : ℕ} → Coding s payload old sent (Symbols count) → (t : ℕ) → t < count → is_spaced s t ≡ true
+sent-spaced : {s : Settings} {payload old sent : List ℕ} {count : ℕ} → Coding s payload old sent (Ok count) → (t : ℕ) → t < count → is_spaced s t ≡ true
     → (c : ℕ → ℕ) × (j : ℕ) × (get_or sent t 0 ≡ symbol_of_codewords (s.sf - 2) true c j)
 unfolding is_spaced block_at sent_symbol symbol_at symbol_in_block
 sent-spaced {s} {payload} {old} {sent} {count} c t h spaced =
@@ -62,7 +61,7 @@ sent-spaced {s} {payload} {old} {sent} {count} c t h spaced =
       frame-cells s payload old sent count c t h ∙ rw (spaced, spaced-rows (frame_of s) (block_of_symbol (frame_of s) t) spaced),
     )
 
-module _ {s : Settings} {payload old sent : List ℕ} {count : ℕ} (c : Coding s payload old sent (Symbols count)) where
+module _ {s : Settings} {payload old sent : List ℕ} {count : ℕ} (c : Coding s payload old sent (Ok count)) where
   two : 2 ≤ s.sf
   two = omega (arith, (coded s payload (length old) count (sym c.answer)).0.settings.sf-low)
 
@@ -131,14 +130,14 @@ module _ {d : ℕ → ℤ} {s : Settings} {payload old sent : List ℕ} {count :
   unfolding repaired_in
   unchanged i t e = sym (marks-none s payload arrived (sender p) i t e) ∙ rw (found_none s payload arrived (sender p) i e)
 
-  read-clean : (answer ≡ Payload (record { length = length payload; cr = cr_of s.kind; checked = checked_of s.kind; symbols = count; repairs = 0; drift = d 0 }))
+  read-clean : (answer ≡ Ok (record { length = length payload; cr = cr_of s.kind; checked = checked_of s.kind; symbols = count; repairs = 0; drift = d 0 }))
       × (buffer' ≡ payload ++ drop (length payload) buffer) × (hurts' ≡ over count (λ _. 0) hurts)
   unfolding changed_by_symbol
   read-clean =
       let r = never (answered-by p (λ _. false) (λ i h. clean p _ i refl (none i h))) in
       let repairs = how_many-none (hurt s payload arrived) (read_words s payload) (λ i h. hurt-none s payload arrived i (none i h)) in
       let says : ℕ → ℤ → Received
-      = λ n x. Payload (record { length = length payload; cr = cr_of s.kind; checked = checked_of s.kind; symbols = count; repairs = n; drift = x }) in
+      = λ n x. Ok (record { length = length payload; cr = cr_of s.kind; checked = checked_of s.kind; symbols = count; repairs = n; drift = x }) in
       let unhurt = over-cong count _ (λ _. 0) hurts (λ t l. how_many-none (changed_in s payload arrived t) (read_words s payload) (λ i h. unchanged i t (none i h))) in
       (r.says ∙ ap₂ says repairs first-drift, r.cells, r.marks ∙ unhurt)
 
@@ -146,13 +145,13 @@ module _ {d : ℕ → ℤ} {s : Settings} {payload old sent : List ℕ} {count :
 -- repairs, none in any symbol, and its drift is the first one's.
 pub drifted : (d : ℕ → ℤ) (s : Settings) (payload old sent : List ℕ) (count : ℕ) (arrived buffer buffer' hurts hurts' : List ℕ) (answer : Received)
     → Bytes payload
-    → Coding s payload old sent (Symbols count)
+    → Coding s payload old sent (Ok count)
     → count ≤ length arrived
     → Drifted d s sent count arrived
     → length payload ≤ length buffer
     → count ≤ length hurts
     → Reading s.sf s.low (expected_of s.kind) arrived buffer buffer' hurts hurts' answer
-    → (answer ≡ Payload (record { length = length payload; cr = cr_of s.kind; checked = checked_of s.kind; symbols = count; repairs = 0; drift = d 0 }))
+    → (answer ≡ Ok (record { length = length payload; cr = cr_of s.kind; checked = checked_of s.kind; symbols = count; repairs = 0; drift = d 0 }))
     × (buffer' ≡ payload ++ drop (length payload) buffer)
     × (hurts' ≡ over count (λ _. 0) hurts)
 drifted d s payload old sent count arrived buffer buffer' hurts hurts' answer bytes c enough near room lists read =
@@ -183,7 +182,7 @@ unfolding mark_of drift_of distance steps_up number_of_value value_of_number
 rows = (refl, refl)
 
 -- Every accepted frame is answered with the drift of its first symbol.
-pub accepted-drift : (sf : ℕ) (low : Bool) (expected : Expected) (symbols old new hurts hurts' : List ℕ) (a : Accepted) → Reading sf low expected symbols old new hurts hurts' (Payload a)
+pub accepted-drift : (sf : ℕ) (low : Bool) (expected : Expected) (symbols old new hurts hurts' : List ℕ) (a : Accepted) → Reading sf low expected symbols old new hurts hurts' (Ok a)
     → (7 ≤ sf) × (get_or symbols 0 0 < 2 ^ sf) × (a.drift ≡ drift_of sf (get_or symbols 0 0))
 unfolding accepted_of
 accepted-drift sf low expected symbols old new hurts hurts' a r =

@@ -6,17 +6,16 @@ use mathlib.Core.List.{List}
 use Prim.Native.Nat.{ℕ}
 use Rattle.lora.specs.declared.Expected.{Expected}
 use Rattle.lora.specs.declared.Settings.{Settings}
-use Rattle.lora.specs.declared.Counted.{Counted}
-use Rattle.lora.specs.declared.Lasting.{Lasting}
-use Rattle.lora.specs.declared.Heading.{Heading}
-use Rattle.lora.specs.declared.Received.{Received}
-use Rattle.day.specs.declared.Verdict.{Verdict}
+use Rattle.lora.specs.Received.{Received}
+use Rattle.day.specs.declared.Taken.{Taken}
 use Rattle.day.specs.declared.Entry.{Entry}
-use Rattle.day_write.specs.declared.Written.{Written}
-use Rattle.lora_c.specs.Export.{Exported, Lent, CountExported, TimeExported, HeadExported, CodeExported, ReadExported}
+use Rattle.lora_c.specs.Export.{Exported, Lent, NumberExported, HeadExported, CodeExported, ReadExported}
 use Rattle.lora_c.specs.DayExport.{WriteExported, CheckExported, StepExported}
 use Rattle.lora_c.specs.TallyExport.{TallyExported}
-use Rattle.tally.specs.declared.Noted.{Noted}
+use Rattle.std.specs.Prelude.{Result}
+use Rattle.tally.specs.declared.Tally.{Tally}
+use Rattle.refusal.specs.declared.Refusal.{Refusal}
+use Rattle.header.specs.declared.Header.{Header}
 
 -- two outcomes of one call
 pub record Same (r r' : ℕ) (new new' : List ℕ) : Type 0 where
@@ -29,16 +28,16 @@ exported p q = record { returned = p.returned ∙ sym q.returned; answers = p.an
 lent : {need : ℕ} {old kept after out out' : List ℕ} → Lent need old kept after out → Lent need old kept after out' → out ≡ out'
 lent p q = p.written ∙ sym q.written
 
-pub count-exported : {a : Counted} {old new new' : List ℕ} {r r' : ℕ} → CountExported a old new r → CountExported a old new' r' → Same r r' new new'
+pub count-exported : {a : Result ℕ Refusal} {old new new' : List ℕ} {r r' : ℕ} → NumberExported a old new r → NumberExported a old new' r' → Same r r' new new'
 count-exported p q = exported p.is q.is
 
-pub airtime-exported : {a : Lasting} {old new new' : List ℕ} {r r' : ℕ} → TimeExported a old new r → TimeExported a old new' r' → Same r r' new new'
+pub airtime-exported : {a : Result ℕ Refusal} {old new new' : List ℕ} {r r' : ℕ} → NumberExported a old new r → NumberExported a old new' r' → Same r r' new new'
 airtime-exported p q = exported p.is q.is
 
-pub head-exported : {a : Heading} {old new new' : List ℕ} {r r' : ℕ} → HeadExported a old new r → HeadExported a old new' r' → Same r r' new new'
+pub head-exported : {a : Result Header Refusal} {old new new' : List ℕ} {r r' : ℕ} → HeadExported a old new r → HeadExported a old new' r' → Same r r' new new'
 head-exported p q = exported p.is q.is
 
-pub code-exported : {a : Counted} {s : Settings} {payload kept out out' old new new' : List ℕ} {r r' : ℕ}
+pub code-exported : {a : Result ℕ Refusal} {s : Settings} {payload kept out out' old new new' : List ℕ} {r r' : ℕ}
     → CodeExported a s payload kept out old new r → CodeExported a s payload kept out' old new' r' → Same r r' new new' × (out ≡ out')
 code-exported p q = (exported p.is q.is, lent p.symbols q.symbols)
 
@@ -47,16 +46,16 @@ pub read-exported : {a : Received} {sf : ℕ} {low : Bool} {expected : Expected}
     → Same r r' new new' × (out ≡ out') × (marks ≡ marks')
 read-exported p q = (exported p.is q.is, lent p.bytes q.bytes, lent p.marks q.marks)
 
-pub day-write-exported : {a : Written} {file kept out out' old new new' : List ℕ} {r r' : ℕ}
+pub day-write-exported : {a : Result ℕ Refusal} {file kept out out' old new new' : List ℕ} {r r' : ℕ}
     → WriteExported a file kept out old new r → WriteExported a file kept out' old new' r' → Same r r' new new' × (out ≡ out')
 day-write-exported p q = (exported p.is q.is, lent p.bytes q.bytes)
 
-pub day-check-exported : {a : Verdict} {old new new' : List ℕ} {r r' : ℕ} → CheckExported a old new r → CheckExported a old new' r' → Same r r' new new'
+pub day-check-exported : {a : Result Taken Refusal} {old new new' : List ℕ} {r r' : ℕ} → CheckExported a old new r → CheckExported a old new' r' → Same r r' new new'
 day-check-exported p q = exported p.is q.is
 
-pub day-step-exported : {a : Entry} {old new new' : List ℕ} {r r' : ℕ} → StepExported a old new r → StepExported a old new' r' → Same r r' new new'
+pub day-step-exported : {a : Result Entry Refusal} {old new new' : List ℕ} {r r' : ℕ} → StepExported a old new r → StepExported a old new' r' → Same r r' new new'
 day-step-exported p q = exported p.is q.is
 
--- of the tally's three functions, over what they note
-pub tally-exported : {enough : Bool} {n : Noted} {old new new' : List ℕ} {r r' : ℕ} → TallyExported enough n old new r → TallyExported enough n old new' r' → Same r r' new new'
+-- of the tally's three functions, over what they say
+pub tally-exported : {enough : Bool} {said : Result Tally Refusal} {old new new' : List ℕ} {r r' : ℕ} → TallyExported enough said old new r → TallyExported enough said old new' r' → Same r r' new new'
 tally-exported p q = record { returned = p.returned ∙ sym q.returned; answers = p.cells ∙ sym q.cells }

@@ -15,7 +15,7 @@ use Rattle.bits.specs.Sum.{sum}
 use Rattle.bits.specs.Tab.{tab}
 use Rattle.bits.proofs.Searches.{first_found, how_many-none, how_many-some, how_many-zero}
 use Rattle.bits.proofs.Sums.{sum-parts}
-use Rattle.bits.proofs.Tabs.{length-tab, get_d_over}
+use Rattle.bits.proofs.Tabs.{length-tab, get_or-over}
 use Rattle.codeword.specs.Codeword.{codeword, flipped, read_as, flipped_bit}
 use Rattle.codeword.specs.Ranges.{Rate}
 use Rattle.codeword.specs.Found.{repaired}
@@ -29,8 +29,7 @@ use Rattle.lora.specs.Read.{repairs_of, hurt_found, accepted_of, frame_said, Rea
 use Rattle.lora.specs.declared.Accepted.{Accepted}
 use Rattle.lora.specs.declared.Expected.{Expected}
 use Rattle.lora.specs.declared.Settings.{Settings}
-use Rattle.lora.specs.declared.Received.{Received}
-use Rattle.lora.specs.declared.Received.TheVariants.{Payload}
+use Rattle.lora.specs.Received.{Received}
 use Rattle.lora.proofs.AnswerLaws.{accepts}
 use Rattle.reading.specs.Found.{found_at, repaired_at, symbol_of_bit, repaired_in, hurt_at}
 use Rattle.reading.proofs.HurtLaws.{flipped-within}
@@ -38,6 +37,7 @@ use Rattle.promises.specs.Damage.{read_words, block_for, sent_word, arrived_word
 use Rattle.promises.proofs.Codewords.{sender, counts, frame-cells}
 use Rattle.promises.proofs.Demand3.{one-changed}
 use Rattle.promises.proofs.Near.{same_bit}
+use Rattle.std.specs.Prelude.{Ok}
 
 -- Codeword reading says the bit: a word that is repaired becomes the codeword of the nibble read by flipping that bit of it, and by
 -- flipping no other.
@@ -55,7 +55,7 @@ all-repairs F symbols len v =
     (λ i l r. omega (arith, flipped-within F v symbols i r, symbols-below F v (nibbles_of F len) (block_of_codeword F i) (block-of-read F v i (nibbles_of F len) l)))
 
 -- The cells of the symbols used add up to the repairs answered, whatever was accepted.
-pub adds-up : {sf : ℕ} {low : Bool} {expected : Expected} {symbols old new hurts hurts' : List ℕ} {a : Accepted} → Reading sf low expected symbols old new hurts hurts' (Payload a)
+pub adds-up : {sf : ℕ} {low : Bool} {expected : Expected} {symbols old new hurts hurts' : List ℕ} {a : Accepted} → Reading sf low expected symbols old new hurts hurts' (Ok a)
     → sum (take a.symbols hurts') ≡ a.repairs
 unfolding accepted_of
 adds-up {sf} {low} {expected} {symbols} {old} {new} {hurts} {hurts'} {a} c =
@@ -81,7 +81,7 @@ module _ {s : Settings} {payload old sent : List ℕ} {count : ℕ} {arrived buf
     (t : ℕ) (h : t < count) where
   -- each cell is the number of read codewords in which that symbol's bit changed,
   pub each-cell : get_or hurts' t 0 ≡ changed_by_symbol s payload arrived t
-  each-cell = rw (one-changed c rate few).marks (get_d_over count (changed_by_symbol s payload arrived) hurts t 0 h)
+  each-cell = rw (one-changed c rate few).marks (get_or-over count (changed_by_symbol s payload arrived) hurts t 0 h)
 
   -- the symbols with a repair are exactly those that changed a bit of a read codeword,
   pub hurt-by : 0 < get_or hurts' t 0 → (i : ℕ) × (i < read_words s payload) × (changed_in s payload arrived t i ≡ true)

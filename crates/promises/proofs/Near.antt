@@ -27,12 +27,12 @@ use Rattle.layout.specs.declared.Block.{Block}
 use Rattle.layout.proofs.LayoutLaws.{codeword-place, block-of-read, rate-first, rate-later, rate-fits, symbols-below}
 use Rattle.lora.specs.Code.{sent_nibble, sent_symbol}
 use Rattle.lora.specs.Count.{cr_of, checked_of, frame_of, count_of}
-use Rattle.lora.specs.declared.Counted.TheVariants.{Symbols}
 use Rattle.lora.specs.declared.Settings.{Settings}
 use Rattle.lora.proofs.SendLaws.{sendable}
 use Rattle.reading.specs.Found.{word_in_block, found_in_block, found_at, symbol_of_bit, repaired_in}
 use Rattle.reading.proofs.ReadingLaws.{word_lt}
 use Rattle.promises.specs.Damage.{read_words, block_at, block_for, sent_word, arrived_word, changed_bits, changed_in, changed_symbols, value_in, changed_values}
+use Rattle.std.specs.Prelude.{Ok}
 
 -- bits that stand in the symbols from the first on: none, or one, in its symbol
 no-bit : (first columns t : ℕ) (p : ℕ → Bool) → ((j : ℕ) → j < columns → p j ≡ false) → false ≡ (leb first t && (ltb (t - first) columns && p (t - first)))
@@ -60,7 +60,7 @@ one_bit first columns k t p l one = by (leb first t) (ltb (t - first) columns) r
 pub record Sent (s : Settings) (payload : List ℕ) : Type 0 where
   pub valid : Valid (frame_of s)
   pub short : length payload ≤ 255
-  pub counted : count_of s (length payload) ≡ Symbols (symbols_of (frame_of s) (length payload))
+  pub counted : count_of s (length payload) ≡ Ok (symbols_of (frame_of s) (length payload))
   pub bytes : Bytes payload
 
 pub sent-nibble-lt : (s : Settings) (payload : List ℕ) → Sent s payload → (i : ℕ) → sent_nibble (frame_of s) payload i < 16

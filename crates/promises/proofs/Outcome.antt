@@ -30,8 +30,6 @@ use Rattle.lora.proofs.SendLaws.{sent-length, sent-in-header}
 use Rattle.lora.specs.declared.Kind.{Kind}
 use Rattle.lora.specs.declared.Kind.TheVariants.{Explicit, Agreed}
 use Rattle.lora.specs.declared.Settings.{Settings}
-use Rattle.lora.specs.declared.Heading.TheVariants.{Says, Refused as HeadRefused}
-use Rattle.lora.specs.declared.Received.TheVariants.{Payload, Refused}
 use Rattle.reading.specs.Found.{found_at, unreadable_at, repaired_at, nibble_at}
 use Rattle.reading.specs.Payload.{sent_checksum}
 use Rattle.promises.specs.Damage.{read_words}
@@ -39,6 +37,8 @@ use Rattle.promises.specs.Refusals.{Told}
 use Rattle.promises.proofs.Front.{front}
 use Rattle.promises.proofs.Near.{Sent}
 use Rattle.promises.proofs.Back.{frame-in-header, bytes_back, checksum-back}
+use Rattle.std.specs.Prelude.{Ok}
+use Rattle.refusal.specs.Refusal.{refuse}
 
 pub sf-holds : (sf : ℕ) → 7 ≤ sf → sf ≤ 12 → valid_sf sf ≡ true
 unfolding valid_sf
@@ -76,7 +76,7 @@ module _ (s : Settings) (payload arrived : List ℕ) (p : Sent s payload)
       (header-same _ _ (λ i l. sym (header-found (frame_of s) arrived p.valid i l)))
 
   module _ (five : (frame_of s).header ≡ 5) where
-    head-refused : stop < 5 → head_of s.sf arrived ≡ HeadRefused 7 stop
+    head-refused : stop < 5 → head_of s.sf arrived ≡ refuse 7 stop
     unfolding header_of unreadable_in_header
     head-refused h =
         let e : first (unreadable_at (found_at (frame_of s) arrived)) 5 0 ≡ stop = first-fewer _ 5 _ 0 (omega (arith, five, within)) h in
@@ -91,7 +91,7 @@ module _ (s : Settings) (payload arrived : List ℕ) (p : Sent s payload)
         ∙ frame-in-header _ payload (checked_of s.kind) i (rw (sent-length (frame_of s) (length payload) p.valid) inside)
         ∙ sent-in-header (frame_of s) (length payload) p.valid i inside
 
-    head-says : 5 ≤ stop → head_of s.sf arrived ≡ Says (record { length = length payload; cr = cr_of s.kind; checked = checked_of s.kind })
+    head-says : 5 ≤ stop → head_of s.sf arrived ≡ Ok (record { length = length payload; cr = cr_of s.kind; checked = checked_of s.kind })
     unfolding header_of unreadable_in_header
     head-says h =
         let e : first (unreadable_at (found_at (frame_of s) arrived)) 5 0 ≡ 5 = first-later _ 5 _ 0 h in
@@ -110,7 +110,7 @@ module _ (s : Settings) (payload arrived : List ℕ) (p : Sent s payload)
       rw same at p.counted
 
   -- and else its first codeword that can't be read is refused
-  unknown : (k : Kind) → s.kind ≡ k → stop < (frame_of s).header → (room marks : ℕ) → read_of s.sf s.low (expected_of k) arrived room marks ≡ Refused 7 stop
+  unknown : (k : Kind) → s.kind ≡ k → stop < (frame_of s).header → (room marks : ℕ) → read_of s.sf s.low (expected_of k) arrived room marks ≡ refuse 7 stop
   unfolding read_of
   unknown (Explicit cr flag) e h room marks = rw (head-refused (ap header_of_kind e) (omega (arith, ap header_of_kind e)))
   unknown (Agreed agreed cr flag) e h room marks = absurd (omega (arith, ap header_of_kind e))
@@ -124,18 +124,18 @@ module _ (s : Settings) (payload arrived : List ℕ) (p : Sent s payload)
   -- read comes as far as the data codewords
   module _ (room marks : ℕ) (fits : length payload ≤ room) (lists : symbols_of (frame_of s) (length payload) ≤ marks) where
     body_is : (frame_of s).header ≤ stop → read_of s.sf s.low (expected_of s.kind) arrived room marks
-        ≡ check (leb (read_words s payload) stop) (Refused 7 stop)
-        (check (sum_holds (frame_of s) arrived (length payload)) (Refused 12 0) (Payload (accepted_of (frame_of s) arrived (length payload))))
+        ≡ check (leb (read_words s payload) stop) (refuse 7 stop)
+        (check (sum_holds (frame_of s) arrived (length payload)) (refuse 12 0) (Ok (accepted_of (frame_of s) arrived (length payload))))
     unfolding data_of read_words
     body_is h =
         front s.kind s.sf s.low (length payload) arrived (told s.kind refl h) room marks
         ∙ body-data (frame_of s) arrived room marks (length payload) fits lists enough below ∙ rw (data-first h)
 
     -- a codeword can't be read, of the header or of the data
-    pub read-refused : stop < read_words s payload → read_of s.sf s.low (expected_of s.kind) arrived room marks ≡ Refused 7 stop
+    pub read-refused : stop < read_words s payload → read_of s.sf s.low (expected_of s.kind) arrived room marks ≡ refuse 7 stop
     read-refused l = by (leb (frame_of s).header stop) refl
       where
-        by : (t : Bool) → leb (frame_of s).header stop ≡ t → read_of s.sf s.low (expected_of s.kind) arrived room marks ≡ Refused 7 stop
+        by : (t : Bool) → leb (frame_of s).header stop ≡ t → read_of s.sf s.low (expected_of s.kind) arrived room marks ≡ refuse 7 stop
         by true e = body_is (leb-true (frame_of s).header stop e) ∙ rw (lt-leb (read_words s payload) stop l)
         by false e = unknown s.kind refl (leb-false (frame_of s).header stop e) room marks
 
@@ -164,7 +164,7 @@ module _ (s : Settings) (payload arrived : List ℕ) (p : Sent s payload)
             eq-eqb _ _ (ap checksum payload-is ∙ sym sum)
 
     pub read_whole : (room marks : ℕ) → length payload ≤ room → symbols_of (frame_of s) (length payload) ≤ marks → read_of s.sf s.low (expected_of s.kind) arrived room marks
-        ≡ Payload (record {
+        ≡ Ok (record {
           length = length payload;
           cr = cr_of s.kind;
           checked = checked_of s.kind;

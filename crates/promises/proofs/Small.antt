@@ -27,53 +27,51 @@ use Rattle.lora.specs.declared.Accepted.{Accepted}
 use Rattle.lora.specs.declared.Expected.TheVariants.{Explicit, Agreed}
 use Rattle.lora.specs.declared.Kind.TheVariants as kind
 use Rattle.lora.specs.declared.Settings.{Settings}
-use Rattle.lora.specs.declared.Counted.{Counted}
-use Rattle.lora.specs.declared.Counted.TheVariants.{Symbols, Refused as CountRefused}
-use Rattle.lora.specs.declared.Lasting.TheVariants.{Microseconds, Refused as TimeRefused}
-use Rattle.lora.specs.declared.Heading.TheVariants.{Says, Refused as HeadRefused}
-use Rattle.lora.specs.declared.Received.TheVariants.{Payload, Refused}
 use Rattle.lora.proofs.AnswerLaws.{accepts}
 use Rattle.lora.proofs.CountLaws.{counted}
 use Rattle.lora.proofs.ReadLaws.{body-data}
 use Rattle.lora.proofs.TimeLaws.{whole}
 use Rattle.promises.proofs.Front.{front}
 use Rattle.promises.proofs.Unchanged.{below-limit}
+use Rattle.std.specs.Prelude.{Result, Ok, Err}
+use Rattle.refusal.specs.Refusal.{refuse}
+use Rattle.refusal.specs.declared.Refusal.{Refusal}
 
 -- what code writes is below 2^SF
-pub code_below : {s : Settings} {payload old sent : List ℕ} {count : ℕ} → Coding s payload old sent (Symbols count) → (t : ℕ) → t < count
+pub code_below : {s : Settings} {payload old sent : List ℕ} {count : ℕ} → Coding s payload old sent (Ok count) → (t : ℕ) → t < count
     → get_or sent t 0 < 2 ^ s.sf
 code_below c = below-limit c
 
 -- the count that code answers is what count answers
-pub code-counts : (s : Settings) (payload old new : List ℕ) (count : ℕ) → Coding s payload old new (Symbols count) → count_of s (length payload) ≡ Symbols count
+pub code-counts : (s : Settings) (payload old new : List ℕ) (count : ℕ) → Coding s payload old new (Ok count) → count_of s (length payload) ≡ Ok count
 unfolding code_of
 code-counts s payload old new count c = one (count_of s (length payload)) (sym c.answer)
   where
-    two : (n : ℕ) (t : Bool) → check t (CountRefused 4 n) (Symbols n) ≡ Symbols count → ◌≡◌ {A = Counted} (Symbols n) (Symbols count)
+    two : (n : ℕ) (t : Bool) → check t (refuse 4 n) (Ok n) ≡ Ok count → ◌≡◌ {A = Result ℕ Refusal} (Ok n) (Ok count)
     two n true e = e
     two n false e = absurd (let z : ◌≡◌ {A = ℕ} 0 1 = cc in omega arith)
 
-    one : (r : Counted) → fitting r (length old) ≡ Symbols count → r ≡ Symbols count
-    one (CountRefused n p) e = e
-    one (Symbols n) e = two n (leb n (length old)) e
+    one : (r : Result ℕ Refusal) → fitting r (length old) ≡ Ok count → r ≡ Ok count
+    one (Err r) e = e
+    one (Ok n) e = two n (leb n (length old)) e
 
 -- never more than 832 symbols, and as many at SF 7, low rate, CR 4, 255 bytes, checksum on
-pub count_most : (s : Settings) (len count : ℕ) → count_of s len ≡ Symbols count → count ≤ 832
+pub count_most : (s : Settings) (len count : ℕ) → count_of s len ≡ Ok count → count ≤ 832
 count_most s len count e =
     let k = counted s len count e in
     rw k.is (symbols-le (frame_of s) len k.settings k.short)
 
-pub largest : count_of (record { sf = 7; low = true; kind = kind.Explicit 4 true }) 255 ≡ Symbols 832
+pub largest : count_of (record { sf = 7; low = true; kind = kind.Explicit 4 true }) 255 ≡ Ok 832
 unfolding count_of valid_sf valid_cr takes symbols_of nibbles_of data_nibbles symbol_count later_blocks remaining rows_of_first rows_of_later
 largest = refl
 
 -- airtime divides without remainder: the time answered, times the bandwidth, is the dividend
-pub airtime-whole : (s : Settings) (len khz n time : ℕ) → airtime_of s len khz n ≡ Microseconds time → time * khz ≡ dividend s.sf n (symbols_of (frame_of s) len)
+pub airtime-whole : (s : Settings) (len khz n time : ℕ) → airtime_of s len khz n ≡ Ok time → time * khz ≡ dividend s.sf n (symbols_of (frame_of s) len)
 unfolding airtime_of microseconds
 airtime-whole s len khz n time e = one (count_of s len) refl e
   where
-    two : (count : ℕ) → count_of s len ≡ Symbols count → (t : Bool) → valid_bandwidth khz ≡ t
-        → check t (TimeRefused 13 0) (Microseconds (dividend s.sf n count / khz)) ≡ Microseconds time → time * khz ≡ dividend s.sf n (symbols_of (frame_of s) len)
+    two : (count : ℕ) → count_of s len ≡ Ok count → (t : Bool) → valid_bandwidth khz ≡ t
+        → check t (refuse 13 0) (Ok (dividend s.sf n count / khz)) ≡ Ok time → time * khz ≡ dividend s.sf n (symbols_of (frame_of s) len)
     two count f false g h = absurd (let z : ◌≡◌ {A = ℕ} 0 1 = cc in omega arith)
     two count f true g h =
         let k = counted s len count f in
@@ -81,23 +79,23 @@ airtime-whole s len khz n time e = one (count_of s len) refl e
         let exact = whole s.sf n count khz k.settings.sf-low g in
         rw (← same, ← k.is) (omega (arith, div-add-mod' (dividend s.sf n count) khz, exact))
 
-    one : (r : Counted) → count_of s len ≡ r → lasting r s khz n ≡ Microseconds time → time * khz ≡ dividend s.sf n (symbols_of (frame_of s) len)
-    one (CountRefused a b) f g = absurd (let z : ◌≡◌ {A = ℕ} 0 1 = cc in omega arith)
-    one (Symbols count) f g = two count f (valid_bandwidth khz) refl g
+    one : (r : Result ℕ Refusal) → count_of s len ≡ r → lasting r s khz n ≡ Ok time → time * khz ≡ dividend s.sf n (symbols_of (frame_of s) len)
+    one (Err r) f g = absurd (let z : ◌≡◌ {A = ℕ} 0 1 = cc in omega arith)
+    one (Ok count) f g = two count f (valid_bandwidth khz) refl g
 
 -- head says what read says of a frame with a header
-pub head-agrees : (sf : ℕ) (low : Bool) (symbols : List ℕ) (room marks : ℕ) (a : Accepted) → read_of sf low Explicit symbols room marks ≡ Payload a
-    → head_of sf symbols ≡ Says (record { length = a.length; cr = a.cr; checked = a.checked })
+pub head-agrees : (sf : ℕ) (low : Bool) (symbols : List ℕ) (room marks : ℕ) (a : Accepted) → read_of sf low Explicit symbols room marks ≡ Ok a
+    → head_of sf symbols ≡ Ok (record { length = a.length; cr = a.cr; checked = a.checked })
 head-agrees sf low symbols room marks a e = (accepts sf low Explicit symbols room marks a e).known
 
 -- and where head refuses, read refuses likewise
-pub head-refuses : (sf : ℕ) (low : Bool) (symbols : List ℕ) (room marks number place : ℕ) → head_of sf symbols ≡ HeadRefused number place
-    → read_of sf low Explicit symbols room marks ≡ Refused number place
+pub head-refuses : (sf : ℕ) (low : Bool) (symbols : List ℕ) (room marks number place : ℕ) → head_of sf symbols ≡ refuse number place
+    → read_of sf low Explicit symbols room marks ≡ refuse number place
 unfolding read_of
 head-refuses sf low symbols room marks number place e = rw e
 
 -- behind a header the first symbol of 2^SF or more is looked for over the rest, since head has looked at the first eight
-pub over-the-rest : (sf : ℕ) (symbols : List ℕ) (h : Header) → head_of sf symbols ≡ Says h → (n : ℕ) → 8 ≤ n
+pub over-the-rest : (sf : ℕ) (symbols : List ℕ) (h : Header) → head_of sf symbols ≡ Ok h → (n : ℕ) → 8 ≤ n
     → first_over sf symbols n 0 ≡ first_over sf symbols (n - 8) 8
 unfolding head_of first_over
 over-the-rest sf symbols h e n l = by (valid_sf sf) (leb 8 (length symbols)) (leb 8 (first_over sf symbols 8 0)) refl e
@@ -108,7 +106,7 @@ over-the-rest sf symbols h e n l = by (valid_sf sf) (leb 8 (length symbols)) (le
         rw whole at (first-skip (is_over sf symbols) 8 (n - 8) 0 (λ k a b. first-before (is_over sf symbols) 8 0 k a (omega arith)))
 
     by : (a b c : Bool) → leb 8 (first_over sf symbols 8 0) ≡ c
-        → check a (HeadRefused 1 0) (check b (HeadRefused 5 8) (check c (HeadRefused 6 (first_over sf symbols 8 0)) (header_of (header_found sf symbols)))) ≡ Says h
+        → check a (refuse 1 0) (check b (refuse 5 8) (check c (refuse 6 (first_over sf symbols 8 0)) (header_of (header_found sf symbols)))) ≡ Ok h
         → first_over sf symbols n 0 ≡ first_over sf symbols (n - 8) 8
     by true true true p f = looked (leb-true 8 (first_over sf symbols 8 0) p)
     by true true false p f = absurd (let z : ◌≡◌ {A = ℕ} 0 1 = cc in omega arith)
@@ -117,7 +115,7 @@ over-the-rest sf symbols h e n l = by (valid_sf sf) (leb 8 (length symbols)) (le
 
 -- without one, read answers with what was agreed
 pub as-agreed : (sf : ℕ) (low : Bool) (len cr : ℕ) (flag : Bool) (symbols : List ℕ) (room marks : ℕ) (a : Accepted)
-    → read_of sf low (Agreed len cr flag) symbols room marks ≡ Payload a → (a.length ≡ len) × (a.cr ≡ cr) × (a.checked ≡ flag)
+    → read_of sf low (Agreed len cr flag) symbols room marks ≡ Ok a → (a.length ≡ len) × (a.cr ≡ cr) × (a.checked ≡ flag)
 as-agreed sf low len cr flag symbols room marks a e = (accepts sf low (Agreed len cr flag) symbols room marks a e).known
 
 -- A frame with no header, no bytes and no checksum still has eight symbols, all fillers: whatever they are below 2^SF, they are read with
@@ -136,13 +134,13 @@ module _ (sf : ℕ) (low : Bool) (cr : ℕ) (sf-low : 7 ≤ sf) (sf-high : sf �
       let v : Valid (frame_of bare) = record { sf-low = sf-low; sf-high = sf-high; cr-low = cr-low; cr-high = cr-high; header-high = omega arith } in
       rw (no-later (frame_of bare) (nibbles_of (frame_of bare) 0) v (omega (arith, no-nibbles))) (omega arith)
 
-  bare-counted : count_of bare 0 ≡ Symbols (symbols_of (frame_of bare) 0)
+  bare-counted : count_of bare 0 ≡ Ok (symbols_of (frame_of bare) 0)
   unfolding count_of valid_sf valid_cr takes bare
   bare-counted = rw (le-leb 7 sf sf-low, le-leb sf 12 sf-high, le-leb 1 cr cr-low, le-leb cr 4 cr-high)
 
   pub all-fillers : (symbols : List ℕ) (room marks : ℕ) → 8 ≤ length symbols → ((t : ℕ) → t < 8 → get_or symbols t 0 < 2 ^ sf) → 8 ≤ marks
       → read_of sf low (Agreed 0 cr false) symbols room marks
-      ≡ Payload (record { length = 0; cr = cr; checked = false; symbols = 8; repairs = 0; drift = drift_of sf (get_or symbols 0 0) })
+      ≡ Ok (record { length = 0; cr = cr; checked = false; symbols = 8; repairs = 0; drift = drift_of sf (get_or symbols 0 0) })
   unfolding data_of sum_holds accepted_of repairs_of how_many bare
   all-fillers symbols room marks enough below lists =
       front (kind.Agreed 0 cr false) sf low 0 symbols bare-counted room marks

@@ -11,26 +11,26 @@ use lib.ListN.{length, length-append, length-drop, get_or, drop}
 use borrow.Author.Tests.{eqb-true, leb-true, le-ltb, le-leb}
 use Rattle.bits.specs.Check.{check}
 use Rattle.bits.specs.Tab.{tab, over}
-use Rattle.bits.proofs.Tabs.{get_or-tab, get_d_over, length-tab, length-blank, tab-cong, tab-get_or}
+use Rattle.bits.proofs.Tabs.{get_or-tab, get_or-over, length-tab, length-blank, tab-cong, tab-get_or}
 use Rattle.bits.proofs.Truth.{both_true, cond_same}
 use Rattle.lora.specs.Read.{read_of}
 use Rattle.lora.specs.declared.Expected.{Expected}
 use Rattle.lora.specs.declared.Expected.TheVariants.{Explicit, Agreed}
-use Rattle.lora.specs.declared.Received.{Received}
-use Rattle.lora.specs.declared.Received.TheVariants.{Payload, Refused as NotRead}
+use Rattle.lora.specs.Received.{Received}
 use Rattle.tally.specs.History as tally
 use Rattle.tally.specs.History.{History, outcomes, Ran, Counts}
-use Rattle.tally.specs.Tally.{read_gives, known, empty, one, plus, fits, keep, done, join_of, clear_of, hear_of, take_in_of, Leaves}
-use Rattle.tally.specs.declared.Answer.TheVariants.{Done}
-use Rattle.tally.specs.declared.Noted.{Noted}
+use Rattle.tally.specs.Tally.{read_gives, known, empty, one, plus, fits, join_of, clear_of, hear_of, take_in_of, Leaves}
 use Rattle.tally.specs.declared.Tally.{Tally}
 use Rattle.tally.proofs.HistoryLaws.{counted, unused}
-use Rattle.lora_c.specs.Export.{code_of_received, cells_of_received, front, Exported}
+use Rattle.lora_c.specs.Export.{number_of, cells_of, cells_of_accepted, front, Exported}
 use Rattle.lora_c.specs.TallyExport.{cell_of, refused_at, tally_in, outcome_in, is_tally, is_outcome, TallyExported}
 use Rattle.promises.specs.Refusals.{one_of}
 use Rattle.promises.specs.Tallied.{Clears, Hears, TakesIn, RanIn, clears, hears, hears-not, takes, takes-not}
-use Rattle.promises.proofs.Checks.{reads, ReadGives, read-among}
+use Rattle.promises.proofs.Checks.{reads, Gives, read-among}
 use Rattle.promises.proofs.Demand1.{KeptFrom, kept}
+use Rattle.std.specs.Prelude.{Result, Ok, Err}
+use Rattle.refusal.specs.Refusal.{refuse}
+use Rattle.refusal.specs.declared.Refusal.{Refusal}
 
 -- No outcome of read is refused with 16.
 
@@ -57,9 +57,9 @@ all-given (Agreed len cr flag) = refl
 pub read_known : (sf : ℕ) (low : Bool) (expected : Expected) (symbols : List ℕ) (room marks : ℕ) → known (read_of sf low expected symbols room marks) ≡ true
 read_known sf low expected symbols room marks = by (read_of sf low expected symbols room marks) (read-among sf low expected symbols room marks)
   where
-    by : (r : Received) → ReadGives (reads expected) r → known r ≡ true
-    by (Payload a) g = refl
-    by (NotRead number place) g = among (reads expected) number (all-given expected) g
+    by : (r : Received) → Gives (reads expected) r → known r ≡ true
+    by (Ok a) g = refl
+    by (Err r) g = among (reads expected) r.number (all-given expected) g
 
 -- Hearing what lora_read returned and left is hearing what read answered.
 
@@ -68,42 +68,42 @@ unfolding read_gives
 not_none n e z = true≢false (sym (rw z at e))
 
 heard-cells : (t : Tally) (o : Received) (before : List ℕ) → known o ≡ true
-    → hear_of t (outcome_in (code_of_received o) (front (cells_of_received o) before)) ≡ hear_of t o
+    → hear_of t (outcome_in (number_of o) (front (cells_of cells_of_accepted o) before)) ≡ hear_of t o
 unfolding outcome_in hear_of one front read_gives
-heard-cells t (Payload a) before e = refl
-heard-cells t (NotRead number place) before e = by (eqb number 0) refl
+heard-cells t (Ok a) before e = refl
+heard-cells t (Err r) before e = by (eqb r.number 0) refl
   where
-    by : (b : Bool) → eqb number 0 ≡ b → hear_of t (cond b (Payload (record { length = 0; cr = 0; checked = false; symbols = 0; repairs = get_or (front (place ∷ []) before) 4 0; drift = pos 0 })) (NotRead number 0)) ≡ hear_of t (NotRead number place)
+    by : (b : Bool) → eqb r.number 0 ≡ b → hear_of t (cond b (Ok (record { length = 0; cr = 0; checked = false; symbols = 0; repairs = get_or (front (r.place ∷ []) before) 4 0; drift = pos 0 })) (refuse r.number 0)) ≡ hear_of t (Err r)
     by false p = refl
-    by true p = absurd (not_none number e (eqb-true number 0 p))
+    by true p = absurd (not_none r.number e (eqb-true r.number 0 p))
 
 pub heard-as-read : (o : Received) {before answer : List ℕ} {number : ℕ} → known o ≡ true → 6 ≤ length before
-    → Exported 6 (code_of_received o) (cells_of_received o) before answer number
+    → Exported 6 (number_of o) (cells_of cells_of_accepted o) before answer number
     → (t : Tally) → hear_of t (outcome_in number answer) ≡ hear_of t o
 heard-as-read o {before} {answer} {number} e h x t =
-    let n : number ≡ code_of_received o = rw (le-ltb _ _ h) at x.returned in
-    let a : answer ≡ front (cells_of_received o) before = rw (le-ltb _ _ h) at x.answers in
+    let n : number ≡ number_of o = rw (le-ltb _ _ h) at x.returned in
+    let a : answer ≡ front (cells_of cells_of_accepted o) before = rw (le-ltb _ _ h) at x.answers in
     rw (n, a) (heard-cells t o before e)
 
 -- and its list is long enough
 
-front_long : (o : Received) (before : List ℕ) → 6 ≤ length before → 6 ≤ length (front (cells_of_received o) before)
+front_long : (o : Received) (before : List ℕ) → 6 ≤ length before → 6 ≤ length (front (cells_of cells_of_accepted o) before)
 unfolding front
-front_long (Payload a) before h = omega (arith, length-append (cells_of_received (Payload a)) (drop 6 before))
-front_long (NotRead number place) before h = omega (arith, h, length-append (place ∷ []) (drop 1 before), length-drop 1 before)
+front_long (Ok a) before h = omega (arith, length-append (cells_of cells_of_accepted (Ok a)) (drop 6 before))
+front_long (Err r) before h = omega (arith, h, length-append (r.place ∷ []) (drop 1 before), length-drop 1 before)
 
 pub long-as-read : (o : Received) {before answer : List ℕ} {number : ℕ} → 6 ≤ length before
-    → Exported 6 (code_of_received o) (cells_of_received o) before answer number → is_outcome number answer ≡ true
+    → Exported 6 (number_of o) (cells_of cells_of_accepted o) before answer number → is_outcome number answer ≡ true
 unfolding is_outcome
 long-as-read o {before} {answer} {number} h x =
-    let a : answer ≡ front (cells_of_received o) before = rw (le-ltb _ _ h) at x.answers in
+    let a : answer ≡ front (cells_of cells_of_accepted o) before = rw (le-ltb _ _ h) at x.answers in
     rw (a, le-leb 6 _ (front_long o before h)) (cond_same (eqb number 0) true)
 
 -- The tally that stands in cells after it was written to them.
 
 module _ (t : Tally) (old : List ℕ) where
   written : (i : ℕ) → i < 16 → get_or (over 16 (cell_of t) old) i 0 ≡ cell_of t i
-  written i h = get_d_over 16 (cell_of t) old i 0 h
+  written i h = get_or-over 16 (cell_of t) old i 0 h
 
   written-refused : (n : ℕ) → n < 13 → refused_at (over 16 (cell_of t) old) n ≡ get_or t.refused n 0
   unfolding refused_at
@@ -118,75 +118,75 @@ module _ (t : Tally) (old : List ℕ) where
       let all : tab 13 (λ n. get_or t.refused n 0) ≡ t.refused = rw (← long) (tab-get_or t.refused 0) in
       rw (written 0 (omega arith), written 1 (omega arith), written 2 (omega arith), cells ∙ all)
 
--- what a call notes: a tally of 13 cells of refusals, or a refusal that keeps the tally
-data Went (t : Tally) : Noted → Type 0 where
-  went-done : (new : Tally) → length new.refused ≡ 13 → Went t (done new)
-  went-not : (number : ℕ) → (number ≡ 0 → ⊥) → Went t (keep t number)
+-- what a call says: a tally of 13 cells of refusals, or a refusal under a number that is not 0
+abbrev Went : Result Tally Refusal → Type 0
+Went (Ok new) = length new.refused ≡ 13
+Went (Err refusal) = refusal.number ≡ 0 → ⊥
 
-went-check : (b : Bool) (t : Tally) (number : ℕ) (next : Noted) → (number ≡ 0 → ⊥) → Went t next → Went t (check b (keep t number) next)
-went-check true t number next n w = w
-went-check false t number next n w = went-not number n
+went-check : (b : Bool) (number : ℕ) (next : Result Tally Refusal) → (number ≡ 0 → ⊥) → Went next → Went (check b (refuse number 0) next)
+went-check true number next n w = w
+went-check false number next n w = n
 
-clear-went : (t : Tally) → Went t (clear_of t)
+clear-went : (t : Tally) → Went (Ok (clear_of t))
 unfolding clear_of empty
-clear-went t = went-done empty (length-blank 13 0)
+clear-went t = length-blank 13 0
 
-join-went : (t s : Tally) → Went t (join_of t s)
+join-went : (t s : Tally) → Went (join_of t s)
 unfolding join_of plus
-join-went t s = went-check (fits t s) t 17 _ (λ e. omega arith) (went-done (plus t s) (length-tab 13 _))
+join-went t s = went-check (fits t s) 17 _ (λ e. omega arith) (length-tab 13 _)
 
-hear-went : (t : Tally) (o : Received) → Went t (hear_of t o)
+hear-went : (t : Tally) (o : Received) → Went (hear_of t o)
 unfolding hear_of
-hear-went t o = went-check (known o) t 16 _ (λ e. omega arith) (join-went t (one o))
+hear-went t o = went-check (known o) 16 _ (λ e. omega arith) (join-went t (one o))
 
-take-went : (t s : Tally) → Went t (take_in_of t s)
+take-went : (t s : Tally) → Went (take_in_of t s)
 unfolding take_in_of
 take-went t s = join-went t s
 
--- a call that returns 0 has left what it noted
-done-in : {enough : Bool} {t : Tally} {n : Noted} {old new : List ℕ} → Went t n → TallyExported enough n old new 0 → Leaves n (tally_in new) Done
-done-in {enough = true} {old = old} (went-done new long) x = record { tally = ap tally_in x.cells ∙ back new old long; answer = refl }
-done-in {enough = true} (went-not number never) x = absurd (never (sym x.returned))
-done-in {enough = false} w x = absurd (let z : ◌≡◌ {A = ℕ} 0 255 = x.returned in omega arith)
+-- a call that returns 0 has left what it said
+done-in : {enough : Bool} (said : Result Tally Refusal) (t : Tally) {old new : List ℕ} → Went said → TallyExported enough said old new 0 → Leaves said t (tally_in new) (Ok tt)
+done-in {enough = true} (Ok new) t {old = old} w x = record { tally = ap tally_in x.cells ∙ back new old w; answer = refl }
+done-in {enough = true} (Err refusal) t w x = absurd (w (sym x.returned))
+done-in {enough = false} said t w x = absurd (let z : ◌≡◌ {A = ℕ} 0 255 = x.returned in omega arith)
 
 -- any other has left every cell as it was
-stays : {enough : Bool} {t : Tally} {n : Noted} {old new : List ℕ} {r : ℕ} → Went t n → TallyExported enough n old new r → (r ≡ 0 → ⊥) → new ≡ old
-stays {enough = true} (went-done new long) x never = absurd (never x.returned)
-stays {enough = true} (went-not number _) x never = x.cells
-stays {enough = false} w x never = x.cells
+stays : {enough : Bool} (said : Result Tally Refusal) {old new : List ℕ} {r : ℕ} → TallyExported enough said old new r → (r ≡ 0 → ⊥) → new ≡ old
+stays {enough = true} (Ok new) x never = absurd (never x.returned)
+stays {enough = true} (Err refusal) x never = x.cells
+stays {enough = false} said x never = x.cells
 
 pub clear_stays : {old new : List ℕ} {r : ℕ} → Clears old new r → (r ≡ 0 → ⊥) → new ≡ old
-clear_stays {old} x never = stays (clear-went (tally_in old)) x never
+clear_stays x never = stays _ x never
 
 pub hear-stays : (number : ℕ) (answer : List ℕ) {old new : List ℕ} {r : ℕ} → Hears number answer old new r → (r ≡ 0 → ⊥) → new ≡ old
-hear-stays number answer {old} x never = stays (hear-went (tally_in old) (outcome_in number answer)) x never
+hear-stays number answer x never = stays _ x never
 
 pub take-in-stays : (other : List ℕ) {old new : List ℕ} {r : ℕ} → TakesIn other old new r → (r ≡ 0 → ⊥) → new ≡ old
-take-in-stays other {old} x never = stays (take-went (tally_in old) (tally_in other)) x never
+take-in-stays other x never = stays _ x never
 
 -- whatever is returned, no cell behind the sixteenth is written
-keeps : {enough : Bool} {t : Tally} {n : Noted} {old new : List ℕ} {r : ℕ} → (enough ≡ true → is_tally old ≡ true) → Went t n → TallyExported enough n old new r
+keeps : {enough : Bool} (said : Result Tally Refusal) {old new : List ℕ} {r : ℕ} → (enough ≡ true → is_tally old ≡ true) → TallyExported enough said old new r
     → KeptFrom 16 old new
-keeps {enough = true} {old = old} long (went-done new _) x = kept 16 (cell_of new) old (leb-true 16 _ (long refl)) x.cells
-keeps {enough = true} long (went-not number _) x = record { long = ap length x.cells; cells = λ t h. rw x.cells }
-keeps {enough = false} long w x = record { long = ap length x.cells; cells = λ t h. rw x.cells }
+keeps {enough = true} (Ok new) {old = old} long x = kept 16 (cell_of new) old (leb-true 16 _ (long refl)) x.cells
+keeps {enough = true} (Err refusal) long x = record { long = ap length x.cells; cells = λ t h. rw x.cells }
+keeps {enough = false} said long x = record { long = ap length x.cells; cells = λ t h. rw x.cells }
 
 pub clear-keeps : {old new : List ℕ} {r : ℕ} → Clears old new r → KeptFrom 16 old new
-clear-keeps {old} x = keeps (λ e. e) (clear-went (tally_in old)) x
+clear-keeps x = keeps _ (λ e. e) x
 
 pub hear-keeps : (number : ℕ) (answer : List ℕ) {old new : List ℕ} {r : ℕ} → Hears number answer old new r → KeptFrom 16 old new
-hear-keeps number answer {old} x = keeps (λ e. (both_true (is_tally old) (is_outcome number answer) e).0) (hear-went (tally_in old) (outcome_in number answer)) x
+hear-keeps number answer {old} x = keeps _ (λ e. (both_true (is_tally old) (is_outcome number answer) e).0) x
 
 pub take-in-keeps : (other : List ℕ) {old new : List ℕ} {r : ℕ} → TakesIn other old new r → KeptFrom 16 old new
-take-in-keeps other {old} x = keeps (λ e. (both_true (is_tally old) (is_tally other) e).0) (take-went (tally_in old) (tally_in other)) x
+take-in-keeps other {old} x = keeps _ (λ e. (both_true (is_tally old) (is_tally other) e).0) x
 
 -- The history theorem for the cells.
 
 ran : {h : History} {cells : List ℕ} → RanIn h cells → Ran h (tally_in cells)
-ran (clears old x) = tally.clears (tally_in old) (done-in (clear-went (tally_in old)) x)
-ran (hears old number answer r x) = tally.hears (outcome_in number answer) (ran r) (done-in (hear-went (tally_in old) (outcome_in number answer)) x)
+ran (clears old x) = tally.clears (tally_in old) (done-in _ (tally_in old) (clear-went (tally_in old)) x).tally
+ran (hears old number answer r x) = tally.hears (outcome_in number answer) (ran r) (done-in _ (tally_in old) (hear-went (tally_in old) (outcome_in number answer)) x)
 ran (hears-not old number answer r x never) = rw (hear-stays number answer x never) (ran r)
-ran (takes old other r q x) = tally.takes (ran r) (ran q) (done-in (take-went (tally_in old) (tally_in other)) x)
+ran (takes old other r q x) = tally.takes (ran r) (ran q) (done-in _ (tally_in old) (take-went (tally_in old) (tally_in other)) x)
 ran (takes-not old other r x never) = rw (take-in-stays other x never) (ran r)
 
 pub counted-in : {h : History} {cells : List ℕ} → RanIn h cells → Counts (tally_in cells) (outcomes h)

@@ -12,11 +12,11 @@ use Rattle.coding.proofs.CodingLaws.{symbol-below}
 use Rattle.lora.specs.Code.{sent_symbol, Coding}
 use Rattle.lora.specs.Count.{frame_of}
 use Rattle.lora.specs.declared.Settings.{Settings}
-use Rattle.lora.specs.declared.Counted.TheVariants.{Symbols}
 use Rattle.lora.proofs.CountLaws.{coded}
 use Rattle.promises.proofs.Codewords.{frame-cells}
+use Rattle.std.specs.Prelude.{Ok}
 
-module _ {s : Settings} {payload old sent : List ℕ} {count : ℕ} (c : Coding s payload old sent (Symbols count)) where
+module _ {s : Settings} {payload old sent : List ℕ} {count : ℕ} (c : Coding s payload old sent (Ok count)) where
   -- what code writes is below 2^SF
   pub below-limit : (t : ℕ) → t < count → get_or sent t 0 < 2 ^ s.sf
   unfolding sent_symbol

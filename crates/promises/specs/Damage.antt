@@ -1,6 +1,6 @@
 -- A frame that was sent, with a header or without, and the symbols that arrived. The words in which demands 2 and 3 are said.
 -- Assumes nothing.
-use Rattle.std.specs.Prelude.{Bool, not, ◌&&◌, cond, List, ◌++◌, ◌≡◌, ℕ, ◌+◌, ◌-◌, ◌^◌, ◌<◌, ◌≤◌, eqb, leb, ltb, length, get_or, drop}
+use Rattle.std.specs.Prelude.{Bool, not, ◌&&◌, cond, List, ◌++◌, ◌≡◌, ℕ, ◌+◌, ◌-◌, ◌^◌, ◌<◌, ◌≤◌, eqb, leb, ltb, length, get_or, drop, Ok}
 use Rattle.bits.specs.Bit.{bit}
 use Rattle.bits.specs.Search.{first, how_many}
 use Rattle.bits.specs.Tab.{Bytes, over}
@@ -13,10 +13,9 @@ use Rattle.lora.specs.Code.{sent_nibble, Coding}
 use Rattle.lora.specs.Count.{cr_of, checked_of, expected_of, frame_of}
 use Rattle.lora.specs.Read.{Reading}
 use Rattle.lora.specs.declared.Settings.{Settings}
-use Rattle.lora.specs.declared.Counted.TheVariants.{Symbols}
-use Rattle.lora.specs.declared.Received.{Received}
-use Rattle.lora.specs.declared.Received.TheVariants.{Payload, Refused}
+use Rattle.lora.specs.Received.{Received}
 use Rattle.reading.specs.Found.{word_in_block}
+use Rattle.refusal.specs.Refusal.{refuse}
 
 -- the codewords that are read: those of the header and the data, and no filler
 unfoldable pub read_words : Settings → List ℕ → ℕ
@@ -78,7 +77,7 @@ FewBits k s payload arrived = (i : ℕ) → i < read_words s payload → changed
 -- values; further symbols are free
 pub record Passed (s : Settings) (payload old sent : List ℕ) (count : ℕ) (arrived buffer buffer' hurts hurts' : List ℕ) (answer : Received) : Type 0 where
   pub bytes : Bytes payload
-  pub coded : Coding s payload old sent (Symbols count)
+  pub coded : Coding s payload old sent (Ok count)
   pub enough : count ≤ length arrived
   pub below : (t : ℕ) → t < count → get_or arrived t 0 < 2 ^ s.sf
   pub room : length payload ≤ length buffer
@@ -98,7 +97,7 @@ hurt_twice s payload arrived i = eqb (changed_bits s payload arrived i) 2
 -- the sent payload is returned, with a repair for each codeword read that has a changed bit, in the symbol that changed it, and the
 -- first symbol's drift
 pub record Returned (s : Settings) (payload arrived : List ℕ) (count : ℕ) (old new hurts hurts' : List ℕ) (answer : Received) : Type 0 where
-  pub says : answer ≡ Payload (record {
+  pub says : answer ≡ Ok (record {
     length = length payload;
     cr = cr_of s.kind;
     checked = checked_of s.kind;
@@ -111,7 +110,7 @@ pub record Returned (s : Settings) (payload arrived : List ℕ) (count : ℕ) (o
 
 -- refusal 7 at codeword i, and nothing is written
 pub record RefusedAt (i : ℕ) (old new hurts hurts' : List ℕ) (answer : Received) : Type 0 where
-  pub says : answer ≡ Refused 7 i
+  pub says : answer ≡ refuse 7 i
   pub cells : new ≡ old
   pub marks : hurts' ≡ hurts
 

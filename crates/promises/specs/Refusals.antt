@@ -1,16 +1,14 @@
 -- The words in which Ask 5 is said: a received word and the codewords of its rate, and the numbers of refusals.
 -- Assumes nothing.
-use Rattle.std.specs.Prelude.{Bool, false, ◌||◌, List, [], ◌∷◌, ◌≡◌, ℕ, ◌^◌, ◌≤◌, ◌<◌, eqb, length, get_or}
+use Rattle.std.specs.Prelude.{Bool, false, ◌||◌, List, [], ◌∷◌, ◌≡◌, ℕ, ◌^◌, ◌≤◌, ◌<◌, eqb, length, get_or, Ok}
 use Rattle.codeword.specs.Codeword.{codeword, apart}
 use Rattle.header.specs.declared.Header.{Header}
 use Rattle.layout.specs.Layout.{symbols_of}
 use Rattle.lora.specs.Count.{frame_of, count_of}
 use Rattle.lora.specs.Head.{head_of}
-use Rattle.lora.specs.declared.Counted.TheVariants.{Symbols}
 use Rattle.lora.specs.declared.Kind.{Kind}
 use Rattle.lora.specs.declared.Kind.TheVariants.{Explicit, Agreed}
 use Rattle.lora.specs.declared.Settings.{Settings}
-use Rattle.lora.specs.declared.Heading.TheVariants.{Says}
 
 -- a word is a codeword
 pub record IsCodeword (cr w : ℕ) : Type 0 where
@@ -32,15 +30,15 @@ one_of (a ∷ others) n = eqb n a || one_of others n
 
 -- the settings are those that the header says, where one is expected and said
 abbrev pub Said : Kind → ℕ → List ℕ → Type 0
-Said (Explicit cr flag) sf symbols = (h : Header) → head_of sf symbols ≡ Says h → (h.cr ≡ cr) × (h.checked ≡ flag)
+Said (Explicit cr flag) sf symbols = (h : Header) → head_of sf symbols ≡ Ok h → (h.cr ≡ cr) × (h.checked ≡ flag)
 Said (Agreed agreed cr flag) sf symbols = Unit
 
 -- how the reader knows of a payload of this length: a header says it, or it was agreed and is one that count takes
 abbrev pub Told : Kind → ℕ → Bool → ℕ → List ℕ → Type 0
-Told (Explicit cr flag) sf low len symbols = head_of sf symbols ≡ Says (record { length = len; cr = cr; checked = flag })
+Told (Explicit cr flag) sf low len symbols = head_of sf symbols ≡ Ok (record { length = len; cr = cr; checked = flag })
 Told (Agreed agreed cr flag) sf low len symbols =
     let s : Settings = record { sf = sf; low = low; kind = Agreed agreed cr flag } in
-    count_of s len ≡ Symbols (symbols_of (frame_of s) len)
+    count_of s len ≡ Ok (symbols_of (frame_of s) len)
 
 -- these settings and this length are known, and the frame is there whole, below 2^SF, with room for its payload and its marks
 pub record Arrived (s : Settings) (len : ℕ) (symbols buffer hurts : List ℕ) : Type 0 where

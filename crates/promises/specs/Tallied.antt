@@ -1,13 +1,13 @@
 -- A run of the tally's calls from C or Rust, on the cells of lent arrays.
 -- Assumes nothing.
-use Rattle.std.specs.Prelude.{◌&&◌, List, ◌≡◌, ℕ}
+use Rattle.std.specs.Prelude.{◌&&◌, List, ◌≡◌, ℕ, Ok}
 use Rattle.tally.specs.History.{History, cleared, heard, took_in}
 use Rattle.tally.specs.Tally.{clear_of, hear_of, take_in_of}
 use Rattle.lora_c.specs.TallyExport.{tally_in, outcome_in, is_tally, is_outcome, TallyExported}
 
 -- what the three functions ensure, of the lent cells before and after and the number returned
 abbrev pub Clears : List ℕ → List ℕ → ℕ → Type 0
-Clears old new r = TallyExported (is_tally old) (clear_of (tally_in old)) old new r
+Clears old new r = TallyExported (is_tally old) (Ok (clear_of (tally_in old))) old new r
 
 abbrev pub Hears : ℕ → List ℕ → List ℕ → List ℕ → ℕ → Type 0
 Hears number answer old new r =

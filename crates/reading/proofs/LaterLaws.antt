@@ -15,7 +15,7 @@ use Rattle.layout.proofs.LayoutLaws.{product_le, block-later, block-fits, later-
 use Rattle.reading.specs.Found.{found_at}
 use Rattle.reading.specs.Stages.{grid_of_symbols, read_row, rows_from, later_found, Walk, flips, bytes_of, Marked}
 use Rattle.reading.proofs.HurtLaws.{marked_more}
-use Rattle.reading.proofs.ReadLoop.{walk_none, walk-range, walk-le, walk-length, walk-long, walk-on}
+use Rattle.reading.proofs.ReadLoop.{walk_none, walk-range, walk-le, walk-long, walk-on}
 use Rattle.reading.proofs.RowLaws.{row-found}
 
 -- a later block of a frame of n codewords: it is as blocks are, it begins behind block 0 and at most at n, and its symbols are
@@ -57,15 +57,10 @@ pub record Sofar (F : Frame) (symbols : List ℕ) (n b : ℕ) (old new : List �
   pub walk : Walk (later_found F symbols) (before F n b) (rows_of_first F.sf) old new (before F n b) repairs
   pub marks : Marked F symbols (min (block_of F b).codeword n) (block_of F b).symbol hurts
 
--- there are no more repairs than codewords, and the list keeps its length
+-- there are no more repairs than codewords
 pub sofar-le : {F : Frame} {symbols : List ℕ} {n b repairs : ℕ} {old new hurts : List ℕ} → Sofar F symbols n b old new repairs hurts → repairs ≤ n
 unfolding before
 sofar-le {F} {symbols} {n} {b} p = omega (arith, walk-le p.walk)
-
-pub sofar-length : {F : Frame} {symbols : List ℕ} {n b repairs : ℕ} {old new hurts : List ℕ} → Sofar F symbols n b old new repairs hurts → rows_of_first F.sf ≤ n
-    → n ≤ length old → length new ≡ length old
-unfolding before
-sofar-length p l room = walk-length p.walk (omega arith)
 
 -- before block 1 there are none, and block 0 is marked
 pub sofar-none : (F : Frame) (symbols : List ℕ) (n : ℕ) (old : List ℕ) {hurts : List ℕ} → rows_of_first F.sf ≤ n → Marked F symbols (rows_of_first F.sf) 8 hurts

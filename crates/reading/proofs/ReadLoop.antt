@@ -9,21 +9,16 @@ use native.Mathlib.Decide.{ℕ_discrete}
 use native.Mathlib.Omega.{arith}
 use lib.Dec.{ltb}
 use borrow.Author.Tests.{ltb-true, ltb-false}
-use lib.ListN.{length, get_or}
+use lib.ListN.{length}
 use Rattle.bits.specs.Bit.{as_bit}
 use Rattle.bits.specs.Search.{first, how_many}
 use Rattle.bits.proofs.Fill.{FilledAt, filled_at-on}
 use Rattle.bits.proofs.Tabs.{over_at-none, length-over_at}
 use Rattle.bits.proofs.Searches.{first-is, first-none, first_range, first_found, first-before, how_many-more, how_many-le, how_many-cong, how_many-add}
-use Rattle.block.specs.Block.{word_of_number}
 use Rattle.codeword.specs.Codeword.{nibble_of, is_repaired, is_unreadable}
 use Rattle.codeword.specs.Found.{Found}
 use Rattle.reading.specs.Found.{unreadable_at, repaired_at, nibble_at}
 use Rattle.reading.specs.Stages.{Walk}
-
--- the symbol word received at j places behind the first
-unfoldable pub word_at : ℕ → Bool → ℕ → List ℕ → ℕ → ℕ
-word_at rows wide first symbols j = word_of_number rows wide (get_or symbols (first + j) 0)
 
 -- each of the first m codewords can be read, with so many repairs
 pub record Clear (h : ℕ → Found) (m repairs : ℕ) : Type 0 where

@@ -13,7 +13,7 @@ use borrow.Author.Tests.{ltb-true, ltb-false}
 use Rattle.bits.specs.Search.{first}
 use Rattle.bits.specs.Tab.{tab, over, blank}
 use Rattle.bits.proofs.Searches.{first_cong, first_range, how_many-cong}
-use Rattle.bits.proofs.Tabs.{length-blank, length-tab, get_or-blank, get_d_over, get_or-over_at, over_at-all, tab-cong}
+use Rattle.bits.proofs.Tabs.{length-blank, length-tab, get_or-blank, get_or-over, get_or-over_at, over_at-all, tab-cong}
 use Rattle.block.proofs.BlockLaws.{received-lt}
 use Rattle.codeword.specs.Codeword.{nibble_of, is_repaired, is_unreadable}
 use Rattle.codeword.specs.Found.{Found}
@@ -103,6 +103,6 @@ pub whitened-payload : (h len : ℕ) (nibble : ℕ → ℕ) (d : List ℕ) {raw 
 unfolding payload_byte
 whitened-payload h len nibble d {raw} e =
     let bytes : ℕ → ℕ = byte_of_nibbles h nibble in
-    let byte : (p : ℕ) → p < len → get_or raw p 0 ≡ bytes p = λ p l. rw e (get_d_over len bytes d p 0 l) in
+    let byte : (p : ℕ) → p < len → get_or raw p 0 ≡ bytes p = λ p l. rw e (get_or-over len bytes d p 0 l) in
     let rest : drop len raw ≡ drop len d = rw e (drop_at (tab len bytes) (drop len d) len (length-tab len bytes)) in
     rw rest (ap (λ (t : List ℕ). t ++ drop len d) (tab-cong len _ _ (λ p l. ap (λ (x : ℕ). bit_xor x (whitening p)) (byte p l))))

@@ -8,7 +8,7 @@ use native.Mathlib.Omega.{arith}
 use lib.ListN.{get_or}
 use Rattle.bits.specs.Tab.{blank}
 use Rattle.bits.proofs.Bits.{number_lt, as_bit-lt}
-use Rattle.bits.proofs.Tabs.{get_d_over}
+use Rattle.bits.proofs.Tabs.{get_or-over}
 use Rattle.block.specs.Grid.{cell, codeword_of_grid}
 use Rattle.block.proofs.BlockLaws.{codeword-through-grid}
 use Rattle.codeword.specs.Codeword.{read_as}
@@ -26,7 +26,7 @@ grid-row : (B : Block) (symbols : List ℕ) (i : ℕ) → B.rate ≤ 4 → i < B
 unfolding grid_of_symbols word_in_block symbol_word
 grid-row B symbols i narrow h =
     let columns : ℕ = 4 + B.rate in
-    codeword-through-grid B.rows columns B.spaced (λ j. get_or symbols (B.symbol + j) 0) _ i (omega arith) h (λ j l. get_d_over columns (symbol_word B symbols) (blank 8 0) j 0 l)
+    codeword-through-grid B.rows columns B.spaced (λ j. get_or symbols (B.symbol + j) 0) _ i (omega arith) h (λ j l. get_or-over columns (symbol_word B symbols) (blank 8 0) j 0 l)
 
 -- it is read as that word is
 pub row-in-block : (B : Block) (symbols : List ℕ) (i : ℕ) → B.rate ≤ 4 → i < B.rows → read_row B.rate (grid_of_symbols B symbols) i ≡ found_in_block B symbols i

@@ -4,38 +4,34 @@
 ghost use Rattle.std.specs.Prelude.{◌≡◌, ℕ, ◌+◌, ◌≤◌, ◌<◌, min, length, get_or};
 ghost use Rattle.bits.specs.Tab.{over, over_at, blank};
 ghost use Rattle.codeword.specs.Ranges.{Rate};
-ghost use Rattle.codeword.specs.Readings.{reading_table, step_table};
 ghost use Rattle.layout.specs.Layout.{rows_of_first, first_block, remaining, symbol_count};
 ghost use Rattle.layout.specs.Ranges.{Valid, Fits};
 ghost use Rattle.reading.specs.Payload.{byte_of_nibbles, payload_byte, sent_checksum};
 ghost use Rattle.reading.specs.Stages.{symbol_word, grid_of_symbols, read_row, rows_from, data_found, later_found, Walk, listed, flips, bytes_of, Marked};
 
-use codeword::{BITS, WORDS};
 use layout::{Block, Frame, LONGEST, MOST_SYMBOLS};
+
+mod tables;
+
+pub use tables::Tables;
 
 // The most nibbles that a frame has.
 pub const NIBBLES: usize = 519;
 
-// How far a run of codewords was read, and the repairs on the way.
-#[derive(Clone, Copy)]
+// How far a run of codewords was read, and the repairs on the way. No Result, since Walk promises both where a codeword can't be
+// read too.
+#[derive(Clone, Copy, Debug, PartialEq, Eq)]
 pub struct Progress {
     pub end: usize,
     pub repairs: usize,
 }
 
 // The same of rows of a block's grid, and how often each bit of its rows was flipped so far, in a byte each.
-#[derive(Clone, Copy)]
+#[derive(Clone, Copy, Debug, PartialEq, Eq)]
 pub struct Rows {
     pub end: usize,
     pub repairs: usize,
     pub flips: u64,
-}
-
-// The smaller of the two.
-fn least(a: usize, b: usize) -> usize
-    ensures { result ≡ min a b }
-{
-    if a < b { a } else { b }
 }
 
 // The symbol words received in a block's columns.
@@ -43,18 +39,17 @@ fn words_of_block(b: Block, symbols: &[u16]) -> [u16; 8]
     requires { Fits b × (b.symbol + (4 + b.rate) ≤ length symbols.now) }
     ensures { result ≡ over (4 + b.rate) (symbol_word b symbols.now) (blank 8 0) }
 {
-    let rows = b.rows;
-    let wide = b.spaced;
-    let first = b.symbol;
-    let columns = 4 + bits::wide(b.rate);
+    let received = &symbols[b.symbol..b.symbol + 4 + usize::from(b.rate)];
     let mut words = [0u16; 8];
-    for j in 0..columns {
-        words[j] = block::word_of_number(rows, wide, symbols[first + j]);
+    // By number, since std says nothing of a list behind `iter_mut().zip()`.
+    for (j, symbol) in received.iter().enumerate() {
+        words[j] = block::word_of_number(b.rows, b.spaced, *symbol);
     }
     words
 }
 
 // The grid of a block.
+#[tactic(auto, unfolding(crate::specs::Stages::grid_of_symbols))]
 fn grid_of_block(b: Block, symbols: &[u16]) -> [[bool; 8]; 12]
     requires { Fits b × (b.symbol + (4 + b.rate) ≤ length symbols.now) }
     ensures { result ≡ grid_of_symbols b symbols.now }
@@ -73,8 +68,7 @@ pub fn first_grid(sf: u8, symbols: &[u16]) -> [[bool; 8]; 12]
 // Reads n codewords of a block's grid, from its row `from` on, into the nibbles from the place at on, up to the first that
 // can't be read. The flips of the rows before are counted on.
 pub fn read_rows(
-    readings: &[u8; WORDS],
-    steps: &[u64; BITS],
+    tables: &Tables,
     rate: u8,
     g: &[[bool; 8]; 12],
     from: usize,
@@ -83,15 +77,16 @@ pub fn read_rows(
     before: u64,
     nibbles: &mut [u8; NIBBLES],
 ) -> Rows
-    requires { (readings.now ≡ reading_table) × (steps.now ≡ step_table) × Rate rate × (from + n ≤ 12) × (at + n ≤ 519) × (length nibbles.old ≡ 519) × (before ≡ flips (read_row rate g.now) from) }
+    requires { Rate rate × (from + n ≤ 12) × (at + n ≤ 519) × (before ≡ flips (read_row rate g.now) from) }
     ensures { Walk (rows_from rate g.now from) n at nibbles.old nibbles.new result.end result.repairs × (result.flips ≡ flips (read_row rate g.now) (from + result.end)) }
 {
-    let columns = 4 + bits::wide(rate);
+    let columns = 4 + usize::from(rate);
     let mut clean = 0;
     let mut flips = before;
-    for i in 0..n {
+    // The row is named by its number, from which the end and the repairs are told.
+    for (i, cell) in nibbles[at..at + n].iter_mut().enumerate() {
         let word = block::codeword_of_grid(columns, g, from + i);
-        let reading = codeword::read_word(readings, rate, word);
+        let reading = tables.reading(rate, word);
         if codeword::unreadable(reading) {
             return Rows {
                 end: i,
@@ -99,10 +94,9 @@ pub fn read_rows(
                 flips,
             };
         }
-        nibbles[at + i] = codeword::nibble(reading);
-        clean += bits::wide(codeword::clean(reading));
-        let bit = bits::wide(codeword::flipped_bit(reading));
-        flips += steps[bit];
+        *cell = codeword::nibble(reading);
+        clean += usize::from(codeword::clean(reading));
+        flips += tables.step(codeword::flipped_bit(reading));
     }
     Rows {
         end: n,
@@ -114,38 +108,34 @@ pub fn read_rows(
 // Writes a block's flips to the cells of its symbols, from the place at on. It writes eight, which is faster than as many as
 // there are columns; what stands behind the block's own is written again with the next block.
 fn mark(flips: u64, at: usize, hurts: &mut [u8; MOST_SYMBOLS])
-    requires { (at + 8 ≤ 832) × (length hurts.old ≡ 832) }
+    requires { at + 8 ≤ 832 }
     ensures { hurts.new ≡ over_at at 8 (bytes_of flips) hurts.old }
 {
-    let mut rest = flips;
-    for j in 0..8usize {
-        hurts[at + j] = (rest % 256) as u8;
-        rest /= 256;
-    }
+    hurts[at..at + 8].copy_from_slice(&flips.to_le_bytes());
 }
 
 // Reads the codewords behind block 0, in a frame of n codewords, up to the first that can't be read, and marks their symbols.
 fn read_later(
-    readings: &[u8; WORDS],
-    steps: &[u64; BITS],
+    tables: &Tables,
     f: Frame,
     symbols: &[u16],
     n: usize,
     nibbles: &mut [u8; NIBBLES],
     hurts: &mut [u8; MOST_SYMBOLS],
 ) -> Progress
-    requires { (readings.now ≡ reading_table) × (steps.now ≡ step_table) × Valid f × (rows_of_first f.sf ≤ n) × (n ≤ 519) × (symbol_count f n ≤ length symbols.now) × (length nibbles.old ≡ 519) × Marked f symbols.now (rows_of_first f.sf) 8 hurts.old }
+    requires { Valid f × (rows_of_first f.sf ≤ n) × (n ≤ 519) × (symbol_count f n ≤ length symbols.now) × Marked f symbols.now (rows_of_first f.sf) 8 hurts.old }
     ensures { Walk (later_found f symbols.now) (remaining f n) (rows_of_first f.sf) nibbles.old nibbles.new result.end result.repairs × (remaining f n ≤ result.end → Marked f symbols.now n (symbol_count f n) hurts.new) }
 {
     let start = layout::first_block(f.sf).rows;
     let blocks = layout::later_blocks(f, n) + 1;
     let mut repairs = 0;
+    // A block's place and shape are computed from its number.
     for k in 1..blocks {
         let b = layout::block_at(f, k);
         let at = b.codeword;
-        let rows = least(b.rows, n - at);
+        let rows = b.rows.min(n - at);
         let g = grid_of_block(b, symbols);
-        let p = read_rows(readings, steps, b.rate, &g, 0, rows, at, 0, nibbles);
+        let p = read_rows(tables, b.rate, &g, 0, rows, at, 0, nibbles);
         mark(p.flips, b.symbol, hurts);
         repairs += p.repairs;
         if p.end < rows {
@@ -164,8 +154,7 @@ fn read_later(
 // Reads the n data codewords of a frame, those behind its header, up to the first that can't be read, and marks the frame's
 // symbols; `first` is the grid of block 0, and `before` has the flips of its header's codewords.
 pub fn read_data(
-    readings: &[u8; WORDS],
-    steps: &[u64; BITS],
+    tables: &Tables,
     f: Frame,
     first: &[[bool; 8]; 12],
     before: u64,
@@ -174,16 +163,14 @@ pub fn read_data(
     nibbles: &mut [u8; NIBBLES],
     hurts: &mut [u8; MOST_SYMBOLS],
 ) -> Progress
-    requires { (readings.now ≡ reading_table) × (steps.now ≡ step_table) × Valid f × (first.now ≡ grid_of_symbols (first_block f.sf) symbols.now) × (before ≡ flips (read_row 4 first.now) f.header) × (f.header + n ≤ 519) × (symbol_count f (f.header + n) ≤ length symbols.now) × (length nibbles.old ≡ 519) × (length hurts.old ≡ 832) }
+    requires { Valid f × (first.now ≡ grid_of_symbols (first_block f.sf) symbols.now) × (before ≡ flips (read_row 4 first.now) f.header) × (f.header + n ≤ 519) × (symbol_count f (f.header + n) ≤ length symbols.now) }
     ensures { Walk (data_found f symbols.now) n f.header nibbles.old nibbles.new result.end result.repairs × (n ≤ result.end → Marked f symbols.now (f.header + n) (symbol_count f (f.header + n)) hurts.new) }
 {
     let header = f.header;
     let b = layout::first_block(f.sf);
     let inside = b.rows - header;
-    let rows = least(inside, n);
-    let p = read_rows(
-        readings, steps, b.rate, first, header, rows, header, before, nibbles,
-    );
+    let rows = inside.min(n);
+    let p = read_rows(tables, b.rate, first, header, rows, header, before, nibbles);
     mark(p.flips, b.symbol, hurts);
     if p.end < inside {
         return Progress {
@@ -191,14 +178,16 @@ pub fn read_data(
             repairs: p.repairs,
         };
     }
-    let rest = read_later(readings, steps, f, symbols, header + n, nibbles, hurts);
+    let rest = read_later(tables, f, symbols, header + n, nibbles, hurts);
     Progress {
         end: inside + rest.end,
         repairs: p.repairs + rest.repairs,
     }
 }
 
-// Byte p of the data behind a header of so many nibbles.
+// Byte p of the data behind a header of so many nibbles. That each is below 16 is asked for here and below, and is no type's: what
+// was read says it (Walk), and a type of its own would need a view, and a way to each cell.
+#[tactic(auto, unfolding(crate::specs::Payload::byte_of_nibbles, crate::specs::Stages::listed))]
 fn byte_of_nibbles(nibbles: &[u8; NIBBLES], header: usize, p: usize) -> u8
     requires { (header ≤ 5) × (p ≤ 256) × ((i : ℕ) → get_or nibbles.now i 0 < 16) }
     ensures { result ≡ byte_of_nibbles header (listed nibbles.now) p }
@@ -214,19 +203,20 @@ pub fn payload_of_nibbles(nibbles: &[u8; NIBBLES], header: usize, len: usize) ->
     ensures { result ≡ over len (payload_byte header (listed nibbles.now)) (blank 255 0) }
 {
     let mut payload = [0u8; LONGEST];
-    for p in 0..len {
-        payload[p] = byte_of_nibbles(nibbles, header, p);
+    for (p, byte) in payload[..len].iter_mut().enumerate() {
+        *byte = byte_of_nibbles(nibbles, header, p);
     }
     whitening::whiten(&mut payload, len);
     payload
 }
 
 // The checksum sent behind a payload of len bytes.
+#[tactic(auto, unfolding(crate::specs::Payload::sent_checksum))]
 pub fn checksum_of_nibbles(nibbles: &[u8; NIBBLES], header: usize, len: usize) -> u16
     requires { (header ≤ 5) × (len ≤ 255) × ((i : ℕ) → get_or nibbles.now i 0 < 16) }
     ensures { result ≡ sent_checksum header (listed nibbles.now) len }
 {
     let low = byte_of_nibbles(nibbles, header, len);
     let high = byte_of_nibbles(nibbles, header, len + 1);
-    (low as u16) + 256 * (high as u16)
+    u16::from(low) + 256 * u16::from(high)
 }

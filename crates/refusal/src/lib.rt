@@ -1,5 +1,13 @@
-// The numbers of the refusals, handed back instead of a result; include/lora.h has the same names.
+// The refusals, handed back instead of a result: their numbers, which include/lora.h has under the same names, and their places.
 #![tactic(auto)]
+
+// Why a call is refused, by one of the numbers below, and where. The number is a byte and no enum: a tally hears whatever byte C
+// hands it, and answers 16 to one that read doesn't give (`tally::hear`, `lora_tally_hear`).
+#[derive(Clone, Copy, Debug, PartialEq, Eq)]
+pub struct Refusal {
+    pub number: u8,
+    pub place: usize,
+}
 
 pub const BAD_SF: u8 = 1;
 

@@ -2,12 +2,13 @@
 -- the one line of a refusal. Numbers are decimal, a payload is in capital hex.
 -- Assumes nothing.
 use mathlib.Core.List.{List, [], ◌∷◌, ◌++◌, flat_map}
-use Rattle.std.specs.Prelude.{ℕ, ◌+◌, ◌-◌, length}
+use Rattle.std.specs.Prelude.{ℕ, ◌+◌, ◌-◌, length, Result, Ok, Err}
+use Rattle.refusal.specs.declared.Refusal.{Refusal}
 use Rattle.line.specs.Line.{field, shown}
 use Rattle.day.specs.Script.{Judged, taken, refused}
 use Rattle.day.specs.Day.{Setting, Frame, RefusedFrame, Day, kind1, judged}
 use Rattle.day.specs.declared.Entry.{Entry}
-use Rattle.day.specs.declared.Entry.TheVariants.{Setting as SettingHere, Frame as FrameHere, Refused as RefusedHere, End, Stop}
+use Rattle.day.specs.declared.Entry.TheVariants.{Setting as SettingHere, Frame as FrameHere, Refused as RefusedHere, End}
 
 -- setting INDEX SF LOW
 unfoldable pub setting_line : ℕ → ℕ → ℕ → List ℕ
@@ -53,9 +54,9 @@ unfoldable pub shown_file : List ℕ → List ℕ
 shown_file bytes = listing (judged kind1 bytes)
 
 -- the line of an entry that a walker came upon; a setting's number is how many stand before it
-unfoldable pub entry_line : Entry → List ℕ → List ℕ
-entry_line (SettingHere sf low next) payload = setting_line (next.settings - 1 - next.left) sf low
-entry_line (FrameHere setting cr flag repairs start next) payload = frame_line setting cr flag repairs payload
-entry_line (RefusedHere setting number place next) payload = refused_line setting number place
-entry_line End payload = []
-entry_line (Stop number place) payload = []
+unfoldable pub entry_line : Result Entry Refusal → List ℕ → List ℕ
+entry_line (Ok (SettingHere sf low next)) payload = setting_line (next.settings - 1 - next.left) sf low
+entry_line (Ok (FrameHere setting cr flag repairs start next)) payload = frame_line setting cr flag repairs payload
+entry_line (Ok (RefusedHere setting number place next)) payload = refused_line setting number place
+entry_line (Ok End) payload = []
+entry_line (Err e) payload = []

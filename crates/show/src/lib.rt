@@ -6,10 +6,10 @@ ghost use Rattle.line.specs.Line.{field};
 ghost use Rattle.put.specs.Put.{Put};
 ghost use Rattle.show.specs.Show.{setting_line, frame_line, refused_line, end_line, no_line, entry_line};
 
-use bits::{wide, wide16};
 use day::Entry;
 use line::{put_field, put_payload, put_words};
 use put::put;
+use refusal::Refusal;
 
 // Room for the longest line, and more: a payload of 255 bytes, and five numbers.
 pub const LINE: usize = 640;
@@ -103,44 +103,50 @@ fn number_of(settings: usize, left: usize) -> usize
 }
 
 // The line of an entry; the end and a refusal have none.
-pub fn put_entry(out: &mut [u8], at: usize, entry: Entry, payload: &[u8]) -> usize
+#[tactic(auto, unfolding(crate::specs::Show::entry_line))]
+pub fn put_entry(out: &mut [u8], at: usize, seen: Result<Entry, Refusal>, payload: &[u8]) -> usize
     requires { (at + 640 ≤ length out.old) × (length payload.now ≤ 255) }
-    ensures { Put at (entry_line entry payload.now) out.old out.new result }
+    ensures { Put at (entry_line seen payload.now) out.old out.new result }
 {
-    match entry {
-        Entry::Setting { sf, low, next } => put_setting(
+    match seen {
+        Ok(Entry::Setting { sf, low, next }) => put_setting(
             out,
             at,
             number_of(next.settings, next.left),
-            wide(sf),
-            wide(low),
+            usize::from(sf),
+            usize::from(low),
         ),
-        Entry::Frame {
-            setting,
-            cr,
-            flag,
-            repairs,
-            start: _,
-            next: _,
-        } => put_frame(
+        Ok(
+            Entry::Frame {
+                setting,
+                cr,
+                flag,
+                repairs,
+                ..
+            },
+        ) => put_frame(
             out,
             at,
-            wide(setting),
-            wide(cr),
-            wide(flag),
-            wide16(repairs),
+            usize::from(setting),
+            usize::from(cr),
+            usize::from(flag),
+            usize::from(repairs),
             payload,
         ),
-        Entry::Refused {
-            setting,
-            number,
-            place,
-            next: _,
-        } => put_refused(out, at, wide(setting), wide(number), wide16(place)),
-        Entry::End => at,
-        Entry::Stop {
-            number: _,
-            place: _,
-        } => at,
+        Ok(
+            Entry::Refused {
+                setting,
+                number,
+                place,
+                ..
+            },
+        ) => put_refused(
+            out,
+            at,
+            usize::from(setting),
+            usize::from(number),
+            usize::from(place),
+        ),
+        _ => at,
     }
 }

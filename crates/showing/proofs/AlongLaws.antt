@@ -1,24 +1,26 @@
 -- Laws of a walk's lines: one more entry, and lines that are written out.
 -- Assumes nothing.
 use mathlib.Core.Path.{◌≡◌, refl, sym, ap, ◌∙◌}
-use mathlib.Core.Bool.{Bool, true, false, not}
+use mathlib.Core.Bool.{true, false}
 use mathlib.Core.List.{List, ◌++◌, append-nil, append_assoc}
 use Prim.Native.Nat.{ℕ, zero, suc, ◌<◌}
 use native.Mathlib.Omega.{arith}
 use lib.ListN.{length}
 use Rattle.put.specs.Put.{Put}
 use Rattle.put.proofs.Puts.{put-none, put_on, put_all}
-use Rattle.day.specs.Script.{Judged}
+use Rattle.day.specs.Script.{Judged, taken, refused}
 use Rattle.day.specs.Day.{Day, kind1}
 use Rattle.day.specs.Stages.{verdict}
 use Rattle.day.specs.Walk.{shown, begin}
-use Rattle.day.specs.declared.Verdict.TheVariants.{Taken, Refused as Declined}
+use Rattle.day.specs.declared.Taken.{Taken}
 use Rattle.day.specs.declared.Place.{Place}
 use Rattle.day.specs.declared.Entry.{Entry}
-use Rattle.day.specs.declared.Entry.TheVariants.{Setting, Frame, Refused, End, Stop}
+use Rattle.day.specs.declared.Entry.TheVariants.{Setting, Frame, Refused, End}
 use Rattle.show.specs.Show.{setting_line, frame_line, refused_line, end_line, no_line, entry_line}
-use Rattle.system.specs.Calls.{Handed, Printing}
-use Rattle.system.specs.declared.Sent.{Sent}
+use Rattle.std.specs.Prelude.{Result, Ok, Err, OnOk}
+use Rattle.refusal.specs.declared.Refusal.{Refusal}
+use Rattle.system.specs.Calls.{Handed, Printing, Sent}
+use Rattle.system.specs.declared.Unwritten.{Unwritten}
 use Rattle.system.proofs.CallLaws.{printing}
 use Rattle.showing.specs.Along.{is_over, line_at, onward, lines_along, place_along, Filled, Passed, Over, Told}
 
@@ -51,18 +53,6 @@ reached-more {bytes} (m, e) w = let (k, f) = place-on m w.n bytes begin in (k, w
 pub reached-over : (bytes : List ℕ) (p : Place) → Reached bytes p → is_over (shown kind1 bytes p) ≡ true → Over bytes
 reached-over bytes p (n, e) h = record { n = n; over = rw (← e) h }
 
-pub not-whole : (b : Bool) → b ≡ true → not b ≡ true → ⊥
-not-whole true h k = let z : ◌≡◌ {A = ℕ} 0 1 = cc in omega arith
-not-whole false h k = let z : ◌≡◌ {A = ℕ} 0 1 = cc in omega arith
-
-pub not-broken : (b : Bool) → not b ≡ false → b ≡ true
-not-broken true h = refl
-not-broken false h = absurd (let z : ◌≡◌ {A = ℕ} 0 1 = cc in omega arith)
-
-pub not_yet : (b : Bool) → not b ≡ true → b ≡ false
-not_yet true h = absurd (let z : ◌≡◌ {A = ℕ} 0 1 = cc in omega arith)
-not_yet false h = refl
-
 module _ {bytes : List ℕ} {from : Place} where
   -- no entry yet
   pub filled_none : (d : List ℕ) → Filled bytes from from d d 0
@@ -80,13 +70,13 @@ module _ {bytes : List ℕ} {from : Place} where
       }
 
 -- an entry's line is not empty
-entry-some : (e : Entry) (payload : List ℕ) → is_over e ≡ false → 0 < length (entry_line e payload)
+entry-some : (e : Result Entry Refusal) (payload : List ℕ) → is_over e ≡ false → 0 < length (entry_line e payload)
 unfolding entry_line setting_line frame_line refused_line
-entry-some (Setting sf low next) payload h = omega arith
-entry-some (Frame setting cr flag repairs start next) payload h = omega arith
-entry-some (Refused setting number place next) payload h = omega arith
-entry-some End payload h = absurd (let z : ◌≡◌ {A = ℕ} 0 1 = cc in omega arith)
-entry-some (Stop number place) payload h = absurd (let z : ◌≡◌ {A = ℕ} 0 1 = cc in omega arith)
+entry-some (Ok (Setting sf low next)) payload h = omega arith
+entry-some (Ok (Frame setting cr flag repairs start next)) payload h = omega arith
+entry-some (Ok (Refused setting number place next)) payload h = omega arith
+entry-some (Ok End) payload h = cc
+entry-some (Err e) payload h = cc
 
 pub line-some : (bytes : List ℕ) (p : Place) → is_over (shown kind1 bytes p) ≡ false → 0 < length (line_at bytes p)
 unfolding line_at
@@ -99,33 +89,35 @@ put-printing p h = let (long, is) = put_all p in printing _ _ is long h
 pub passed : {bytes d e : List ℕ} {from to : Place} {n : ℕ} {sent : Sent} → Filled bytes from to d e n → Handed n sent → Passed bytes from to e sent
 passed w h = record { n = w.n; printing = put-printing w.put h; is = w.is }
 
+pub on_ok : {P : Type 0} (sent : Sent) → P → OnOk sent P
+on_ok (Ok n) p = p
+on_ok (Err u) p = tt
+
 -- what is told of a file, by its verdict
-module _ {j : Judged Day} {bytes buffer : List ℕ} {sent : Sent} where
-  pub told-broken : {a b c : ℕ} → Taken a b c ≡ verdict j → (sent.whole ≡ true → ⊥) → Told j bytes buffer sent
+module _ {bytes buffer : List ℕ} where
+  pub told-broken : (j : Judged Day) {t : Taken} (u : Unwritten) → Ok t ≡ verdict j → Told j bytes buffer (Err u)
   unfolding verdict
-  told-broken p h = record {
-    all = λ e q k. absurd (h k);
-    refusal = λ x y q. let r = rw q at p in absurd (let z : ◌≡◌ {A = ℕ} 0 1 = cc in omega arith);
-  }
+  told-broken (taken e) u p = record { all = λ d q. tt; refusal = λ x y q. cc }
+  told-broken (refused number place) u p = cc
 
-  pub told-whole : {a b c : ℕ} → Taken a b c ≡ verdict j → Over bytes → Printing (end_line b c) buffer sent → Told j bytes buffer sent
+  pub told-whole : (j : Judged Day) {t : Taken} (sent : Sent) → Ok t ≡ verdict j → Over bytes → Printing (end_line t.frames t.refused) buffer sent → Told j bytes buffer sent
   unfolding verdict
-  told-whole {a} {b} {c} p o h = record {
-    all = λ e q k.
-        let r = rw q at p in
-        let frames : b ≡ length e.frames = cc in
-        let refusals : c ≡ length e.refused = cc in
-        (o, rw (frames, refusals) at h);
-    refusal = λ x y q. let r = rw q at p in absurd (let z : ◌≡◌ {A = ℕ} 0 1 = cc in omega arith);
+  told-whole (taken e) {t} sent p o h = record {
+    all = λ d q.
+        let same : e ≡ d = cc in
+        let counts : t ≡ record { settings = length e.settings; frames = length e.frames; refused = length e.refused } = cc in
+        on_ok sent (o, rw (← same) (rw counts at h));
+    refusal = λ x y q. cc;
   }
+  told-whole (refused number place) sent p o h = cc
 
-  pub told-refused : {number place n : ℕ} → Declined number place ≡ verdict j → n ≡ number → Printing (no_line n place) buffer sent → Told j bytes buffer sent
+  pub told-refused : (j : Judged Day) {r : Refusal} {sent : Sent} → Err r ≡ verdict j → Printing (no_line r.number r.place) buffer sent → Told j bytes buffer sent
   unfolding verdict
-  told-refused {number} {place} p w h = record {
-    all = λ e q k. let r = rw q at p in absurd (let z : ◌≡◌ {A = ℕ} 0 1 = cc in omega arith);
+  told-refused (taken e) p h = cc
+  told-refused (refused number place) {r} p h = record {
+    all = λ d q. cc;
     refusal = λ x y q.
-        let r = rw q at p in
-        let first : number ≡ x = cc in
-        let second : place ≡ y = cc in
-        rw (w, first, second) at h;
+        let first : r.number ≡ x = cc in
+        let second : r.place ≡ y = cc in
+        rw (first, second) at h;
   }

@@ -1,24 +1,24 @@
 -- The lines of a file's entries as a walker comes upon them.
 -- Assumes nothing.
-use Rattle.std.specs.Prelude.{Bool, true, false, List, [], ◌++◌, ◌≡◌, ℕ, zero, suc, length}
+use Rattle.std.specs.Prelude.{Bool, true, false, List, [], ◌++◌, Result, Ok, Err, OnOk, ◌≡◌, ℕ, zero, suc, length}
+use Rattle.refusal.specs.declared.Refusal.{Refusal}
 use Rattle.put.specs.Put.{Put}
 use Rattle.day.specs.Script.{Judged, taken, refused}
 use Rattle.day.specs.Day.{Day, kind1}
 use Rattle.day.specs.Walk.{shown, payload_of, behind, begin}
 use Rattle.day.specs.declared.Place.{Place}
 use Rattle.day.specs.declared.Entry.{Entry}
-use Rattle.day.specs.declared.Entry.TheVariants.{Setting, Frame, Refused, End, Stop}
+use Rattle.day.specs.declared.Entry.TheVariants.{Setting, Frame, Refused, End}
 use Rattle.show.specs.Show.{end_line, no_line, entry_line}
-use Rattle.system.specs.Calls.{Printing}
-use Rattle.system.specs.declared.Sent.{Sent}
+use Rattle.system.specs.Calls.{Printing, Sent}
 
 -- no entry stands here: the file's end, or a refusal
-abbrev pub is_over : Entry → Bool
-is_over (Setting sf low next) = false
-is_over (Frame setting cr flag repairs start next) = false
-is_over (Refused setting number place next) = false
-is_over End = true
-is_over (Stop number place) = true
+abbrev pub is_over : Result Entry Refusal → Bool
+is_over (Ok (Setting sf low next)) = false
+is_over (Ok (Frame setting cr flag repairs start next)) = false
+is_over (Ok (Refused setting number place next)) = false
+is_over (Ok End) = true
+is_over (Err e) = true
 
 -- the line of the entry at a place, and the place behind it
 unfoldable pub line_at : List ℕ → Place → List ℕ
@@ -56,5 +56,5 @@ pub record Over (bytes : List ℕ) : Type 0 where
 -- what was shown of a file that is judged so: if all was written, a walk has come to the end, and the last line was written behind
 -- it; of a file that is refused the one line alone
 pub record Told (j : Judged Day) (bytes buffer : List ℕ) (sent : Sent) : Type 0 where
-  pub all : (e : Day) → j ≡ taken e → sent.whole ≡ true → Over bytes × Printing (end_line (length e.frames) (length e.refused)) buffer sent
+  pub all : (e : Day) → j ≡ taken e → OnOk sent (Over bytes × Printing (end_line (length e.frames) (length e.refused)) buffer sent)
   pub refusal : (number place : ℕ) → j ≡ refused number place → Printing (no_line number place) buffer sent

@@ -2,7 +2,7 @@
 // refusal. Nothing of a file that is refused is shown.
 #![tactic(auto)]
 
-ghost use Rattle.std.specs.Prelude.{◌≡◌, true, ◌+◌, ◌≤◌, length};
+ghost use Rattle.std.specs.Prelude.{◌≡◌, ◌+◌, ◌≤◌, length, OnOk};
 ghost use Rattle.put.specs.Put.{Put};
 ghost use Rattle.day.specs.Day.{kind1, judged};
 ghost use Rattle.day.specs.Walk.{shown};
@@ -10,10 +10,10 @@ ghost use Rattle.show.specs.Show.{end_line, no_line};
 ghost use Rattle.system.specs.Calls.{Handed, Printing};
 ghost use Rattle.showing.specs.Along.{is_over, line_at, Filled, Passed, Over, Told};
 
-use bits::wide;
-use day::{Entry, Place, Verdict};
+use day::{Entry, Place};
+use refusal::Refusal;
 use show::LINE;
-use system::Sent;
+use system::{Sent, Unwritten};
 
 // One byte more than the longest file has: a longer input is refused by its first bytes. A file has its first byte, three
 // counts, and at most 255 settings, 255 frames of at most 261 bytes and 255 refused frames.
@@ -29,58 +29,25 @@ pub struct Shown {
     pub sent: Sent,
 }
 
-// Entries whose lines stand at the front of a buffer: the place behind them, how many bytes their lines have, and whether the
-// walk is over.
+// Entries whose lines stand at the front of a buffer: the place behind them, and how many bytes their lines have.
 #[derive(Clone, Copy)]
 struct Part {
     place: Place,
     used: usize,
-    over: bool,
 }
 
 // The same when the lines were written out.
 #[derive(Clone, Copy)]
 struct Turn {
     place: Place,
-    over: bool,
     shown: Shown,
 }
 
-fn is_over(entry: Entry) -> bool
-    ensures { result ≡ is_over entry }
-{
-    match entry {
-        Entry::Setting {
-            sf: _,
-            low: _,
-            next: _,
-        } => false,
-        Entry::Frame {
-            setting: _,
-            cr: _,
-            flag: _,
-            repairs: _,
-            start: _,
-            next: _,
-        } => false,
-        Entry::Refused {
-            setting: _,
-            number: _,
-            place: _,
-            next: _,
-        } => false,
-        Entry::End => true,
-        Entry::Stop {
-            number: _,
-            place: _,
-        } => true,
-    }
-}
-
+// Whether no entry stands at a place: a walk is over there.
 fn over_at(bytes: &[u8], place: Place) -> bool
     ensures { result ≡ is_over (shown kind1 bytes.now place) }
 {
-    is_over(day_walk::seen(bytes, place))
+    matches!(day_walk::seen(bytes, place), Ok(Entry::End) | Err(_))
 }
 
 // The line of the entry at a place, behind those that wait.
@@ -97,21 +64,17 @@ fn put_here(out: &mut [u8], used: usize, bytes: &[u8], place: Place) -> usize
 // line might not fit.
 fn fill(bytes: &[u8], from: Place, out: &mut [u8]) -> Part
     requires { 640 ≤ length out.old }
-    ensures { Filled bytes.now from result.place out.old out.new result.used × (result.over ≡ is_over (shown kind1 bytes.now result.place)) }
+    ensures { Filled bytes.now from result.place out.old out.new result.used }
 {
     let last = out.len() - LINE;
     let mut place = from;
     let mut used = 0;
-    let mut over = over_at(bytes, place);
-    while !over {
-        if used > last {
-            return Part { place, used, over };
-        }
+    // Each place is what the walker answers, so that no iterator has it.
+    while used <= last && !over_at(bytes, place) {
         used = put_here(out, used, bytes, place);
         place = day_walk::place_behind(bytes, place);
-        over = over_at(bytes, place);
     }
-    Part { place, used, over }
+    Part { place, used }
 }
 
 // Writes out the first n bytes of a buffer, behind so many lines.
@@ -120,8 +83,9 @@ fn write(rt: &HostRuntime, lines: usize, out: &[u8], n: usize) -> Shown
     ensures { Handed n result.sent }
 {
     let sent = system::write_first(rt, &mut rt.stdout(), out, n);
+    let bytes = sent.unwrap_or_else(|stop| stop.bytes);
     Shown {
-        lines: panel::together(lines, lines::line_ends(out, sent.bytes)),
+        lines: panel::together(lines, lines::line_ends(out, bytes)),
         sent,
     }
 }
@@ -129,13 +93,11 @@ fn write(rt: &HostRuntime, lines: usize, out: &[u8], n: usize) -> Shown
 // Writes out the lines of as many entries as the buffer has room for.
 fn show_part(rt: &HostRuntime, bytes: &[u8], from: Place, lines: usize, out: &mut [u8]) -> Turn
     requires { 640 ≤ length out.old }
-    ensures { Passed bytes.now from result.place out.new result.shown.sent × (result.over ≡ is_over (shown kind1 bytes.now result.place)) }
+    ensures { Passed bytes.now from result.place out.new result.shown.sent }
 {
     let part = fill(bytes, from, out);
-    let place = part.place;
     Turn {
-        place,
-        over: part.over,
+        place: part.place,
         shown: write(rt, lines, out, part.used),
     }
 }
@@ -143,30 +105,27 @@ fn show_part(rt: &HostRuntime, bytes: &[u8], from: Place, lines: usize, out: &mu
 // Writes out the lines of all entries. Each turn passes one at least.
 fn show_entries(rt: &HostRuntime, bytes: &[u8], out: &mut [u8]) -> Shown
     requires { 640 ≤ length out.old }
-    ensures { result.sent.whole ≡ true → Over bytes.now }
+    ensures { OnOk result.sent (Over bytes.now) }
 {
     let mut place = day_walk::start();
     let mut lines = 0;
-    for turn in 0..MOST {
-        let part = show_part(rt, bytes, place, lines, out);
-        let shown = part.shown;
-        let sent = shown.sent;
-        if !sent.whole {
-            return shown;
+    for _ in 0..MOST {
+        let turn = show_part(rt, bytes, place, lines, out);
+        if let Err(_) = turn.shown.sent {
+            return turn.shown;
         }
-        if part.over {
-            return shown;
+        if over_at(bytes, turn.place) {
+            return turn.shown;
         }
-        lines = shown.lines;
-        place = part.place;
+        lines = turn.shown.lines;
+        place = turn.place;
     }
     Shown {
         lines,
-        sent: Sent {
+        sent: Err(Unwritten {
             bytes: 0,
-            whole: false,
-            error: 0,
-        },
+            error: system::out_of_tries(),
+        }),
     }
 }
 
@@ -180,11 +139,11 @@ fn show_end(rt: &HostRuntime, lines: usize, frames: usize, refused: usize, out: 
 }
 
 // The one line of a file that is refused.
-fn show_refusal(rt: &HostRuntime, number: usize, place: usize, out: &mut [u8]) -> Shown
+fn show_refusal(rt: &HostRuntime, refusal: Refusal, out: &mut [u8]) -> Shown
     requires { 640 ≤ length out.old }
-    ensures { Printing (no_line number place) out.new result.sent }
+    ensures { Printing (no_line refusal.number refusal.place) out.new result.sent }
 {
-    let n = show::put_no(out, 0, number, place);
+    let n = show::put_no(out, 0, usize::from(refusal.number), refusal.place);
     write(rt, 0, out, n)
 }
 
@@ -194,18 +153,13 @@ pub fn show(rt: &HostRuntime, bytes: &[u8], out: &mut [u8]) -> Shown
     ensures { Told (judged kind1 bytes.now) bytes.now out.new result.sent }
 {
     match day::check(bytes) {
-        Verdict::Taken {
-            settings: _,
-            frames,
-            refused,
-        } => {
+        Ok(taken) => {
             let shown = show_entries(rt, bytes, out);
-            let sent = shown.sent;
-            if !sent.whole {
+            if let Err(_) = shown.sent {
                 return shown;
             }
-            show_end(rt, shown.lines, frames, refused, out)
+            show_end(rt, shown.lines, taken.frames, taken.refused, out)
         }
-        Verdict::Refused { number, place } => show_refusal(rt, wide(number), place, out),
+        Err(refusal) => show_refusal(rt, refusal, out),
     }
 }

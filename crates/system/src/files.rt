@@ -1,10 +1,10 @@
 // Files by name. A call hands on how it went; what it did to the file no contract can say.
-ghost use Rattle.std.specs.Prelude.{◌≤◌, length};
-ghost use Rattle.system.specs.Calls.{Behind, Front, Held};
+ghost use Rattle.std.specs.Prelude.{◌≡◌, ◌+◌, ◌≤◌, length, IfOk};
+ghost use Rattle.system.specs.Calls.{Within};
 
-use crate::{EINVAL, Got, error, put, read_from};
+use crate::{EINVAL, read_rest};
 use std::fs::{File, OpenOptions, Permissions};
-use std::io::{Seek, SeekFrom};
+use std::io::{ErrorKind, Seek};
 use std::os::unix::fs::{OpenOptionsExt, PermissionsExt};
 use std::random::RandomSource;
 use std::rt::Clock;
@@ -13,227 +13,115 @@ use std::{fs, io};
 
 // The system's numbers for a name that something else has, and for bytes that are no text: std takes a file's name only as
 // UTF-8, and so a name that is not is refused here.
-const EEXIST: usize = 17;
+const EEXIST: i32 = 17;
 
-const EILSEQ: usize = 84;
+const EILSEQ: i32 = 84;
 
 // The letters that the name of a new file ends in, and how often others are tried where a file has it already.
 const LETTERS: [u8; 62] = *b"abcdefghijklmnopqrstuvwxyzABCDEFGHIJKLMNOPQRSTUVWXYZ0123456789";
 
 const TRIES: usize = 62 * 62 * 62;
 
-// How a call went: as it should, or not, with the system's number for it.
-#[derive(Clone, Copy)]
-pub enum Done {
-    Well,
-    Failed(usize),
-}
-
-// A file that was opened; or the system's number for why it was not.
-#[derive(Drop)]
-pub enum Opened {
-    File(File),
-    Failed(usize),
-}
-
-// So many bytes of a file, at the front of a buffer: all that it has, unless they fill the buffer. Or why they can't be read.
-#[derive(Clone, Copy)]
-pub enum Contents {
-    Bytes(usize),
-    Failed(usize),
-}
-
 // A new file, and how many bytes of the lent buffer are its name.
 #[derive(Drop)]
 pub struct Temporary {
-    pub opened: Opened,
+    pub file: File,
     pub name: usize,
 }
 
-fn went(answer: io::Result<()>) -> Done {
-    match answer {
-        Ok(()) => Done::Well,
-        Err(e) => Done::Failed(error(&e)),
-    }
+fn text_of(path: &[u8]) -> io::Result<&str> {
+    from_utf8(path).map_err(|_| io::Error::from_raw_os_error(EILSEQ))
 }
 
-fn file_of(answer: io::Result<File>) -> Opened {
-    match answer {
-        Ok(file) => Opened::File(file),
-        Err(e) => Opened::Failed(error(&e)),
-    }
-}
-
-pub fn open(rt: &HostRuntime, path: &[u8]) -> Opened {
-    match from_utf8(path) {
-        Ok(text) => file_of(File::open(rt, text)),
-        Err(_) => Opened::Failed(EILSEQ),
-    }
-}
-
-// Closes the file. std keeps to itself what the system answers; what was synced before is on the disk all the same.
-pub fn close(file: File) -> Done {
-    drop(file);
-    Done::Well
-}
-
-// Waits until the file's bytes are on the disk.
-pub fn sync(file: &File) -> Done {
-    went(file.sync_all())
+pub fn open(rt: &HostRuntime, path: &[u8]) -> io::Result<File> {
+    File::open(rt, text_of(path)?)
 }
 
 // Lets everybody read the file; a temporary one is its owner's alone.
-pub fn share(file: &File) -> Done {
-    went(file.set_permissions(Permissions::from_mode(0o644)))
+pub fn share(file: &File) -> io::Result<()> {
+    file.set_permissions(Permissions::from_mode(0o644))
 }
 
-pub fn rename(rt: &HostRuntime, from: &[u8], to: &[u8]) -> Done {
-    match (from_utf8(from), from_utf8(to)) {
-        (Ok(from), Ok(to)) => went(fs::rename(rt, from, to)),
-        _ => Done::Failed(EILSEQ),
-    }
+pub fn rename(rt: &HostRuntime, from: &[u8], to: &[u8]) -> io::Result<()> {
+    fs::rename(rt, text_of(from)?, text_of(to)?)
 }
 
-pub fn remove(rt: &HostRuntime, path: &[u8]) -> Done {
-    match from_utf8(path) {
-        Ok(text) => went(fs::remove_file(rt, text)),
-        Err(_) => Done::Failed(EILSEQ),
-    }
+pub fn remove(rt: &HostRuntime, path: &[u8]) -> io::Result<()> {
+    fs::remove_file(rt, text_of(path)?)
 }
 
 // Makes a file that nothing has the name of, its owner's alone.
-fn create(rt: &HostRuntime, path: &[u8]) -> Opened {
-    match from_utf8(path) {
-        Ok(text) => file_of(
-            OpenOptions::new()
-                .read(true)
-                .write(true)
-                .create_new(true)
-                .mode(0o600)
-                .open(rt, text),
-        ),
-        Err(_) => Opened::Failed(EILSEQ),
-    }
+fn create(rt: &HostRuntime, path: &[u8]) -> io::Result<File> {
+    OpenOptions::new()
+        .read(true)
+        .write(true)
+        .create_new(true)
+        .mode(0o600)
+        .open(rt, text_of(path)?)
 }
 
 // Puts six letters behind a stem, as chance has them, and makes the file of that name.
-fn create_by_chance(rt: &HostRuntime, path: &mut [u8], stem: usize) -> Opened
-    requires { stem ≤ length path.old }
+fn create_by_chance(rt: &HostRuntime, path: &mut [u8], stem: usize) -> io::Result<File>
+    requires { stem + 6 ≡ length path.old }
 {
     let mut letters = [0u8; 6];
-    if let Err(e) = rt.fill_bytes(&mut letters) {
-        return Opened::Failed(error(&e));
-    }
+    rt.fill_bytes(&mut letters)?;
     for letter in letters.iter_mut() {
         *letter = LETTERS[usize::from(*letter % 62)];
     }
-    put(path, stem, &letters);
+    path[stem..].copy_from_slice(&letters);
     create(rt, path)
 }
 
 // Makes a file under a stem and six letters that nothing else has.
-fn create_unlike(rt: &HostRuntime, path: &mut [u8], stem: usize) -> Opened
-    requires { stem ≤ length path.old }
+fn create_unlike(rt: &HostRuntime, path: &mut [u8], stem: usize) -> io::Result<File>
+    requires { stem + 6 ≡ length path.old }
 {
     for _ in 0..TRIES {
         match create_by_chance(rt, path, stem) {
-            Opened::Failed(EEXIST) => {}
+            Err(e) if e.kind() == ErrorKind::AlreadyExists => {}
             result => {
                 return result;
             }
         }
     }
-    Opened::Failed(EEXIST)
+    Err(io::Error::from_raw_os_error(EEXIST))
 }
 
-// Makes a file beside the one of this name, under a name that nothing else has.
-pub fn make_beside(rt: &HostRuntime, name: &[u8], temporary: &mut [u8]) -> Temporary
-    ensures { result.name ≤ length temporary.new }
+// Makes a file beside the one of this name, under that name, a dot and six letters, which nothing else has.
+pub fn make_beside(rt: &HostRuntime, name: &[u8], temporary: &mut [u8]) -> io::Result<Temporary>
+    ensures { IfOk result (λ made. made.name ≤ length temporary.new) }
 {
-    let dot = put(temporary, 0, name);
-    let stem = put(temporary, dot, b".");
-    let end = put(temporary, stem, b"XXXXXX");
-    let opened = if end < 6 || stem != end - 6 {
-        Opened::Failed(EINVAL)
-    } else {
-        create_unlike(rt, &mut temporary[..end], stem)
-    };
-    Temporary { opened, name: end }
-}
-
-// Reads behind the bytes that are there.
-fn read_behind(rt: &impl Clock, file: &mut File, buffer: &mut [u8], from: usize) -> Got
-    requires { from ≤ length buffer.old }
-    ensures { Behind result from buffer.new }
-{
-    read_from(rt, file, &mut buffer[from..])
-}
-
-// Reads from where the file stands to its end, or as much as the buffer takes.
-fn read_rest(rt: &impl Clock, file: &mut File, buffer: &mut [u8]) -> Contents
-    ensures { Held result buffer.new }
-{
-    let mut have = 0;
-    for _ in 0..u64::MAX {
-        if have == buffer.len() {
-            return Contents::Bytes(have);
-        }
-        let got = read_behind(rt, file, buffer, have);
-        match got {
-            Got::Bytes(n) => {
-                have += n;
-            }
-            Got::End => {
-                return Contents::Bytes(have);
-            }
-            Got::Failed(error) => {
-                return Contents::Failed(error);
-            }
-        }
+    let dot = name.len();
+    if temporary.len().saturating_sub(dot) < 7 {
+        return Err(io::Error::from_raw_os_error(EINVAL));
     }
-    Contents::Failed(0)
+    temporary[..dot].copy_from_slice(name);
+    temporary[dot] = b'.';
+    let file = create_unlike(rt, &mut temporary[..dot + 7], dot + 1)?;
+    Ok(Temporary {
+        file,
+        name: dot + 7,
+    })
 }
 
-// Reads a file from its first byte on.
-pub fn read_whole(rt: &impl Clock, file: &mut File, buffer: &mut [u8]) -> Contents
-    ensures { Held result buffer.new }
+// Reads a file from its first byte on, to its end or as much as the buffer takes.
+pub fn read_whole(rt: &impl Clock, file: &mut File, buffer: &mut [u8]) -> io::Result<usize>
+    ensures { Within result buffer.new }
 {
-    match file.seek(SeekFrom::Start(0)) {
-        Ok(_) => read_rest(rt, file, buffer),
-        Err(e) => Contents::Failed(error(&e)),
-    }
+    file.rewind()?;
+    read_rest(rt, file, buffer)
 }
 
-// How many bytes of a name are its folder's: up to the last slash.
-fn folder(name: &[u8]) -> usize
-    ensures { Front result name.now }
-{
-    let mut n = name.len();
-    while n > 0 {
-        if name[n - 1] == b'/' {
-            return n;
-        }
-        n -= 1;
+// The folder's part of a name: up to the last slash.
+fn folder(name: &[u8]) -> &[u8] {
+    match name.iter().rposition(|c| *c == b'/') {
+        Some(slash) => &name[..=slash],
+        None => b".",
     }
-    n
-}
-
-fn open_folder(rt: &HostRuntime, name: &[u8]) -> Opened {
-    let n = folder(name);
-    if n == 0 {
-        return open(rt, b".");
-    }
-    open(rt, &name[..n])
 }
 
 // Waits until the name of a file is on the disk, as its folder has it.
-pub fn sync_folder(rt: &HostRuntime, name: &[u8]) -> Done {
-    match open_folder(rt, name) {
-        Opened::Failed(error) => Done::Failed(error),
-        Opened::File(file) => {
-            let synced = sync(&file);
-            close(file);
-            synced
-        }
-    }
+pub fn sync_folder(rt: &HostRuntime, name: &[u8]) -> io::Result<()> {
+    open(rt, folder(name))?.sync_all()
 }

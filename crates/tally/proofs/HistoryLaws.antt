@@ -6,6 +6,7 @@ use mathlib.Core.List.{List, [], ◌∷◌, ◌++◌}
 use Prim.Native.Nat.{ℕ, ◌+◌, ◌<◌, ◌≤◌}
 use native.Mathlib.Decide.{ℕ_discrete}
 use native.Mathlib.Omega.{arith}
+use Rattle.std.specs.Prelude.{Result, Ok, Err}
 use lib.Dec.{eqb, leb, ltb}
 use lib.ListN.{length-append, get_or}
 use borrow.Author.Tests.{eq-eqb, ne_eqb, lt-ltb, le-ltb, leb-true}
@@ -16,12 +17,11 @@ use Rattle.bits.specs.Tab.{tab, blank}
 use Rattle.bits.proofs.Sums.{sum-zero, sum-add, sum_one}
 use Rattle.bits.proofs.Tabs.{get_or-tab, tab-cong}
 use Rattle.bits.proofs.Truth.{both_true}
-use Rattle.lora.specs.declared.Received.{Received}
-use Rattle.lora.specs.declared.Received.TheVariants.{Payload, Refused as NotRead}
+use Rattle.lora.specs.Received.{Received}
+use Rattle.refusal.specs.Refusal.{refuse}
+use Rattle.refusal.specs.declared.Refusal.{Refusal}
 use Rattle.tally.specs.declared.Tally.{Tally}
-use Rattle.tally.specs.declared.Noted.{Noted}
-use Rattle.tally.specs.declared.Answer.TheVariants.{Done, Refused}
-use Rattle.tally.specs.Tally.{read_gives, known, clean_of, repaired_of, refused_of, empty, one, sum_at, plus, fits, keep, done, join_of, clear_of, hear_of, take_in_of, Leaves}
+use Rattle.tally.specs.Tally.{read_gives, known, clean_of, repaired_of, refused_of, empty, one, sum_at, plus, fits, join_of, clear_of, hear_of, take_in_of, Leaves}
 use Rattle.tally.specs.History.{History, outcomes, Ran, clears, hears, hears-not, takes, takes-not, sum_over, refusals, Counts}
 
 -- what two lists add to a part, and what one outcome adds
@@ -72,13 +72,13 @@ accepted-parts r = go (ℕ_discrete r 0)
     go (yes q) = rw (eq-eqb r 0 q, le-ltb 0 r (omega arith))
     go (no q) = rw (ne_eqb r 0 q, lt-ltb 0 r (omega arith))
 
-at-most-12 : (n : ℕ) → read_gives n ≡ true → n ≤ 12
+pub at-most-12 : (n : ℕ) → read_gives n ≡ true → n ≤ 12
 unfolding read_gives
 at-most-12 n e = leb-true n 12 (both_true (leb n 12) _ (both_true (leb 1 n) _ e).1).0
 
 one-parts : (o : Received) → known o ≡ true → 1 ≡ clean_of o + repaired_of o + sum (tab 13 (refused_of o))
-one-parts (Payload a) e = omega (arith, accepted-parts a.repairs, sum-zero 13 (refused_of (Payload a)) (λ i h. refl))
-one-parts (NotRead number place) e = omega (arith, sum_one 13 number true (λ _. let l : number ≤ 12 = at-most-12 number e in omega arith))
+one-parts (Ok a) e = omega (arith, accepted-parts a.repairs, sum-zero 13 (refused_of (Ok a)) (λ i h. refl))
+one-parts (Err r) e = omega (arith, sum_one 13 r.number true (λ _. let l : r.number ≤ 12 = at-most-12 r.number e in omega arith))
 
 pub counts-one : (o : Received) → known o ≡ true → Counts (one o) (o ∷ [])
 unfolding one
@@ -103,59 +103,51 @@ counts-plus {t} {s} {l} {m} p q = record {
   parts = omega (arith, p.parts, q.parts, sums_at (refusals l) (refusals m) p.refused q.refused);
 }
 
--- a check passed, and a refusal that keeps the tally
+-- a check passed
 
-passed : (b : Bool) (t : Tally) (n : ℕ) (next : Noted) {new : Tally} → Leaves (check b (keep t n) next) new Done → (b ≡ true) × Leaves next new Done
-passed true t n next l = (refl, l)
-passed false t n next l = absurd (let z : ◌≡◌ {A = ℕ} 0 1 = cc l.answer in omega arith)
+passed : (b : Bool) (n : ℕ) (next : Result Tally Refusal) {old new : Tally} → Leaves (check b (refuse n 0) next) old new (Ok tt) → (b ≡ true) × Leaves next old new (Ok tt)
+passed true n next l = (refl, l)
+passed false n next l = absurd (let z : ◌≡◌ {A = Result Unit Refusal} (Ok tt) (refuse n 0) = l.answer in cc z)
 
--- where such an answer is a refusal, its tally is t
-abbrev Keeps : Tally → Noted → Type 0
-Keeps t said = (n p : ℕ) → Refused n p ≡ said.answer → said.tally ≡ t
-
-keeps-check : (b : Bool) (t : Tally) (n : ℕ) (next : Noted) → Keeps t next → Keeps t (check b (keep t n) next)
-keeps-check true t n next k = k
-keeps-check false t n next k = λ m p e. refl
-
-keeps-done : (t new : Tally) → Keeps t (done new)
-keeps-done t new n p e = absurd (let z : ◌≡◌ {A = ℕ} 0 1 = cc in omega arith)
-
--- whatever the tally was, made by hand or not: a refused call leaves it as it was
-pub keeps-taking : (t s : Tally) → Keeps t (take_in_of t s)
-unfolding take_in_of join_of
-keeps-taking t s = keeps-check (fits t s) t 17 (done (plus t s)) (keeps-done t (plus t s))
-
-pub keeps-hearing : (t : Tally) (o : Received) → Keeps t (hear_of t o)
-unfolding hear_of join_of
-keeps-hearing t o = keeps-check (known o) t 16 _ (keeps-check (fits t (one o)) t 17 _ (keeps-done t _))
-
-joined : (t s : Tally) {new : Tally} → Leaves (join_of t s) new Done → new ≡ plus t s
+joined : (t s : Tally) {new : Tally} → Leaves (join_of t s) t new (Ok tt) → new ≡ plus t s
 unfolding join_of
-joined t s l = (passed (fits t s) t 17 _ l).1.tally
+joined t s l = (passed (fits t s) 17 _ l).1.tally
+
+-- whatever is said: a refused call leaves the tally as it was
+keeps : (said : Result Tally Refusal) {old new : Tally} {refusal : Refusal} → Leaves said old new (Err refusal) → new ≡ old
+keeps (Ok t) l = absurd (cc l.answer)
+keeps (Err refusal) l = l.tally
+
+-- whatever the tally was, made by hand or not
+pub keeps-taking : (t s : Tally) {new : Tally} {refusal : Refusal} → Leaves (take_in_of t s) t new (Err refusal) → new ≡ t
+keeps-taking t s = keeps (take_in_of t s)
+
+pub keeps-hearing : (t : Tally) (o : Received) {new : Tally} {refusal : Refusal} → Leaves (hear_of t o) t new (Err refusal) → new ≡ t
+keeps-hearing t o = keeps (hear_of t o)
 
 -- the history theorem
 pub counted : {h : History} {t : Tally} → Ran h t → Counts t (outcomes h)
 unfolding outcomes clear_of hear_of take_in_of
-counted (clears old l) = rw l.tally counts-none
+counted (clears old e) = rw e counts-none
 counted (hears {h} {t} o r l) =
-    let (is_Known, k) = passed (known o) t 16 _ l in
-    rw (joined t (one o) k) (counts-plus (counted r) (counts-one o is_Known))
-counted (hears-not {h} {t} o r l) = rw (l.tally ∙ keeps-hearing t o _ _ l.answer) (counted r)
+    let (is-known, k) = passed (known o) 16 _ l in
+    rw (joined t (one o) k) (counts-plus (counted r) (counts-one o is-known))
+counted (hears-not {h} {t} o r l) = rw (keeps-hearing t o l) (counted r)
 counted (takes {h} {g} {t} {s} r q l) = rw (joined t s l) (counts-plus (counted r) (counted q))
-counted (takes-not {h} {t} s r l) = rw (l.tally ∙ keeps-taking t s _ _ l.answer) (counted r)
+counted (takes-not {h} {t} s r l) = rw (keeps-taking t s l) (counted r)
 
 -- under a number that read doesn't give no outcome is counted
 
 none-under : (o : Received) (n : ℕ) → known o ≡ true → read_gives n ≡ false → refused_of o n ≡ 0
-none-under (Payload a) n e z = refl
-none-under (NotRead number place) n e z = ap as_bit (ne_eqb number n (λ q. true≢false (sym e ∙ ap read_gives q ∙ z)))
+none-under (Ok a) n e z = refl
+none-under (Err r) n e z = ap as_bit (ne_eqb r.number n (λ q. true≢false (sym e ∙ ap read_gives q ∙ z)))
 
 never-under : {h : History} {t : Tally} → Ran h t → (n : ℕ) → read_gives n ≡ false → refusals (outcomes h) n ≡ 0
 unfolding outcomes hear_of
-never-under (clears old l) n z = none_in n
+never-under (clears old e) n z = none_in n
 never-under (hears {h} {t} o r l) n z =
-    let is_Known = (passed (known o) t 16 _ l).0 in
-    omega (arith, refusals-append (outcomes h) (o ∷ []) n, never-under r n z, refusals-one o n, none-under o n is_Known z)
+    let is-known = (passed (known o) 16 _ l).0 in
+    omega (arith, refusals-append (outcomes h) (o ∷ []) n, never-under r n z, refusals-one o n, none-under o n is-known z)
 never-under (hears-not o r l) n z = never-under r n z
 never-under (takes {h} {g} r q l) n z = omega (arith, refusals-append (outcomes h) (outcomes g) n, never-under r n z, never-under q n z)
 never-under (takes-not s r l) n z = never-under r n z

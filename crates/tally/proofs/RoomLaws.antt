@@ -1,26 +1,20 @@
 -- Laws of the checks of 17, and of the sums that they guard.
 -- Assumes nothing.
 use mathlib.Core.Path.{◌≡◌, refl, sym, ap, ◌∙◌}
-use mathlib.Core.Bool.{Bool, true, false, not}
+use mathlib.Core.Bool.{true, false, not}
 use Prim.Native.Nat.{ℕ, ◌+◌, ◌-◌, ◌<◌, ◌≤◌}
 use native.Mathlib.Omega.{arith}
-use lib.Dec.{leb}
-use borrow.Author.Tests.{leb-true, leb-false, le-leb, lt-leb, not-false}
+use native.Mathlib.Decide.{ℕ_discrete}
+use lib.Dec.{leb, eqb}
+use lib.ListN.{length, get_or, set}
+use borrow.Author.Tests.{le-leb, lt-leb, eq-eqb, ne_eqb}
+use Rattle.std.proofs.lemmas.List.{length-set, get_or-set_same, get_or-set_other}
+use Rattle.bits.specs.Bit.{as_bit}
 use Rattle.bits.specs.Search.{first}
-use Rattle.bits.proofs.Truth.{both_true}
-use Rattle.bits.proofs.Searches.{first-before, first-here, first_more, first-end}
-use Rattle.tally.specs.declared.Tally.{Tally}
-use Rattle.tally.specs.Tally.{most, passes, sum_at, fits}
-
--- two tests that hold together are one
-pub same-leb : (a b c d : ℕ) → (a ≤ b → c ≤ d) → (c ≤ d → a ≤ b) → leb a b ≡ leb c d
-same-leb a b c d f g = go (leb a b) (leb c d) refl refl
-  where
-    go : (x y : Bool) → leb a b ≡ x → leb c d ≡ y → x ≡ y
-    go true true e k = refl
-    go true false e k = absurd (omega (arith, f (leb-true a b e), leb-false c d k))
-    go false true e k = absurd (omega (arith, g (leb-true c d k), leb-false a b e))
-    go false false e k = refl
+use Rattle.bits.specs.Tab.{tab, blank}
+use Rattle.bits.proofs.Tabs.{tab-get_or, tab-cong, length-blank, get_or-blank}
+use Rattle.bits.proofs.Searches.{first-here, first_more, first-end}
+use Rattle.tally.specs.Tally.{most, passes}
 
 -- the search for a sum that passes: it ends here, it goes on, it has come to its end
 module _ (f : ℕ → ℕ) (i : ℕ) (so_far : first (passes f) 13 0 ≡ first (passes f) (13 - i) i) where
@@ -35,21 +29,12 @@ module _ (f : ℕ → ℕ) (i : ℕ) (so_far : first (passes f) 13 0 ≡ first (
   pub rooms-yes : 13 ≤ i → true ≡ leb 13 (first (passes f) 13 0)
   rooms-yes h = sym (le-leb 13 (first (passes f) 13 0) (rw (so_far, first-end (passes f) 13 i h) h))
 
--- where the search comes to its end no sum passes
-pub at_most : (f : ℕ → ℕ) (n i : ℕ) → n ≤ first (passes f) n 0 → i < n → f i ≤ most
-unfolding passes
-at_most f n i h l = leb-true (f i) most (not-false _ (first-before (passes f) n 0 i (omega arith) (omega arith)))
-
-pub record Fitting (t s : Tally) : Type 0 where
-  pub heard : t.heard + s.heard ≤ most
-  pub clean : t.clean + s.clean ≤ most
-  pub repaired : t.repaired + s.repaired ≤ most
-  pub refused : 13 ≤ first (passes (sum_at t.refused s.refused)) 13 0
-
-pub fitting : (t s : Tally) → fits t s ≡ true → Fitting t s
-unfolding fits
-fitting t s e =
-    let (a, x) = both_true _ _ e in
-    let (b, y) = both_true _ _ x in
-    let (c, d) = both_true _ _ y in
-    record { heard = leb-true _ _ a; clean = leb-true _ _ b; repaired = leb-true _ _ c; refused = leb-true _ _ d }
+-- a list of nothing with one in a cell
+pub one_in : (n k : ℕ) → k < n → set (blank n 0) k 1 ≡ tab n (λ i. as_bit (eqb k i))
+one_in n k h =
+    let long : length {A = ℕ} (set (blank n 0) k 1) ≡ n = length-set (blank n 0) k 1 ∙ length-blank n 0 in
+    sym (tab-get_or (set (blank n 0) k 1) 0) ∙ rw long (tab-cong n _ (λ i. as_bit (eqb k i)) (λ i l. at i l (ℕ_discrete i k)))
+  where
+    at : (i : ℕ) → i < n → Dec (i ≡ k) → get_or (set (blank n 0) k 1) i 0 ≡ as_bit (eqb k i)
+    at i l (yes e) = let here : k < length {A = ℕ} (blank n 0) = omega (arith, length-blank {A = ℕ} n 0) in rw (e, eq-eqb k k refl) (get_or-set_same (blank n 0) k 1 0 here)
+    at i l (no e) = rw (ne_eqb k i (λ q. e (sym q))) (get_or-set_other (blank n 0) k i 1 0 e ∙ get_or-blank n i 0 0 l)

@@ -1,12 +1,11 @@
 -- What went into a tally since a clearing.
 -- Assumes nothing.
-use Rattle.std.specs.Prelude.{List, [], ◌∷◌, ◌++◌, ◌≡◌, ℕ, ◌+◌, length}
+use Rattle.std.specs.Prelude.{List, [], ◌∷◌, ◌++◌, ◌≡◌, ℕ, ◌+◌, length, Ok}
 use Rattle.bits.specs.Sum.{sum}
 use Rattle.bits.specs.Tab.{tab}
-use Rattle.lora.specs.declared.Received.{Received}
+use Rattle.lora.specs.Received.{Received}
+use Rattle.refusal.specs.Refusal.{refuse}
 use Rattle.tally.specs.declared.Tally.{Tally}
-use Rattle.tally.specs.declared.Answer.{Answer}
-use Rattle.tally.specs.declared.Answer.TheVariants.{Done, Refused}
 use Rattle.tally.specs.Tally.{clear_of, hear_of, take_in_of, Leaves, clean_of, repaired_of, refused_of}
 
 -- a clearing; an outcome heard after a history; another history taken in after a history
@@ -23,11 +22,11 @@ outcomes (took_in h g) = outcomes h ++ outcomes g
 
 -- t is a tally after a clearing and a run of calls, and h is its history: a call that is refused leaves no trace in it
 pub data Ran : History → Tally → Type 0 where
-  clears : (old : Tally) {new : Tally} {r : Answer} → Leaves (clear_of old) new r → Ran cleared new
-  hears : {h : History} {t new : Tally} (o : Received) → Ran h t → Leaves (hear_of t o) new Done → Ran (heard h o) new
-  hears-not : {h : History} {t new : Tally} (o : Received) {number place : ℕ} → Ran h t → Leaves (hear_of t o) new (Refused number place) → Ran h new
-  takes : {h g : History} {t s new : Tally} → Ran h t → Ran g s → Leaves (take_in_of t s) new Done → Ran (took_in h g) new
-  takes-not : {h : History} {t new : Tally} (s : Tally) {number place : ℕ} → Ran h t → Leaves (take_in_of t s) new (Refused number place) → Ran h new
+  clears : (old : Tally) {new : Tally} → new ≡ clear_of old → Ran cleared new
+  hears : {h : History} {t new : Tally} (o : Received) → Ran h t → Leaves (hear_of t o) t new (Ok tt) → Ran (heard h o) new
+  hears-not : {h : History} {t new : Tally} (o : Received) {number place : ℕ} → Ran h t → Leaves (hear_of t o) t new (refuse number place) → Ran h new
+  takes : {h g : History} {t s new : Tally} → Ran h t → Ran g s → Leaves (take_in_of t s) t new (Ok tt) → Ran (took_in h g) new
+  takes-not : {h : History} {t new : Tally} (s : Tally) {number place : ℕ} → Ran h t → Leaves (take_in_of t s) t new (refuse number place) → Ran h new
 
 -- what the outcomes of a list add to a part: their number, since each adds 1 to its own part and 0 to every other
 unfoldable pub sum_over : (Received → ℕ) → List Received → ℕ

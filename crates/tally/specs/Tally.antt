@@ -1,16 +1,14 @@
 -- Document 02, Ask 6, a tally beside the day: frames heard, accepted clean, accepted repaired, refused under each number.
 -- Assumes nothing.
-use Rattle.std.specs.Prelude.{Bool, true, not, ◌&&◌, ◌≡◌, List, ℕ, ◌+◌, eqb, leb, ltb, get_or}
+use Rattle.std.specs.Prelude.{Bool, true, not, ◌&&◌, ◌≡◌, List, ℕ, ◌+◌, eqb, leb, ltb, get_or, Result, Ok, Err}
 use Rattle.bits.specs.Bit.{as_bit}
 use Rattle.bits.specs.Check.{check}
 use Rattle.bits.specs.Search.{first}
 use Rattle.bits.specs.Tab.{tab, blank}
-use Rattle.lora.specs.declared.Received.{Received}
-use Rattle.lora.specs.declared.Received.TheVariants.{Payload, Refused as NotRead}
+use Rattle.lora.specs.Received.{Received}
+use Rattle.refusal.specs.Refusal.{refuse}
+use Rattle.refusal.specs.declared.Refusal.{Refusal}
 use Rattle.tally.specs.declared.Tally.{Tally}
-use Rattle.tally.specs.declared.Answer.{Answer}
-use Rattle.tally.specs.declared.Answer.TheVariants.{Done, Refused}
-use Rattle.tally.specs.declared.Noted.{Noted}
 
 -- the numbers that read gives: 1 to 7 and 9 to 12
 unfoldable pub read_gives : ℕ → Bool
@@ -18,21 +16,21 @@ read_gives n = leb 1 n && (leb n 12 && not (eqb n 8))
 
 -- an outcome that read gives
 abbrev pub known : Received → Bool
-known (Payload a) = true
-known (NotRead number place) = read_gives number
+known (Ok a) = true
+known (Err refusal) = read_gives refusal.number
 
 -- what one outcome adds to each part: accepted with no repairs, accepted with some, refused under the number n
 abbrev pub clean_of : Received → ℕ
-clean_of (Payload a) = as_bit (eqb a.repairs 0)
-clean_of (NotRead number place) = 0
+clean_of (Ok a) = as_bit (eqb a.repairs 0)
+clean_of (Err refusal) = 0
 
 abbrev pub repaired_of : Received → ℕ
-repaired_of (Payload a) = as_bit (ltb 0 a.repairs)
-repaired_of (NotRead number place) = 0
+repaired_of (Ok a) = as_bit (ltb 0 a.repairs)
+repaired_of (Err refusal) = 0
 
 abbrev pub refused_of : Received → ℕ → ℕ
-refused_of (Payload a) n = 0
-refused_of (NotRead number place) n = as_bit (eqb number n)
+refused_of (Ok a) n = 0
+refused_of (Err refusal) n = as_bit (eqb refusal.number n)
 
 -- the tally of nothing, the tally of one outcome, and two tallies in one: each number is the sum of the two. Cell n of refused is of the
 -- number n
@@ -68,28 +66,31 @@ fits t s =
     && (leb (t.repaired + s.repaired) most
     && leb 13 (first (passes (sum_at t.refused s.refused)) 13 0)))
 
--- after a refusal the whole tally stays; its place is 0
-abbrev pub keep : Tally → ℕ → Noted
-keep t number = record { tally = t; answer = Refused number 0 }
-
-abbrev pub done : Tally → Noted
-done t = record { tally = t; answer = Done }
-
--- 17
-unfoldable pub join_of : Tally → Tally → Noted
-join_of t s = check (fits t s) (keep t 17) (done (plus t s))
+-- 17, or the sum
+unfoldable pub join_of : Tally → Tally → Result Tally Refusal
+join_of t s = check (fits t s) (refuse 17 0) (Ok (plus t s))
 
 -- the three calls: clearing; hearing an outcome, 16 then 17; taking in another station's tally, 17
-unfoldable pub clear_of : Tally → Noted
-clear_of t = done empty
+unfoldable pub clear_of : Tally → Tally
+clear_of t = empty
 
-unfoldable pub hear_of : Tally → Received → Noted
-hear_of t o = check (known o) (keep t 16) (join_of t (one o))
+unfoldable pub hear_of : Tally → Received → Result Tally Refusal
+hear_of t o = check (known o) (refuse 16 0) (join_of t (one o))
 
-unfoldable pub take_in_of : Tally → Tally → Noted
+unfoldable pub take_in_of : Tally → Tally → Result Tally Refusal
 take_in_of t s = join_of t s
 
--- what a call leaves and answers is what its definition says
-pub record Leaves (said : Noted) (new : Tally) (r : Answer) : Type 0 where
-  pub tally : new ≡ said.tally
-  pub answer : r ≡ said.answer
+-- the lent tally afterwards: the one said; after a refusal as it was, the whole of it
+abbrev pub tally_after : Result Tally Refusal → Tally → Tally
+tally_after (Ok t) old = t
+tally_after (Err refusal) old = old
+
+-- the answer: done, or the refusal said
+abbrev pub answer_of : Result Tally Refusal → Result Unit Refusal
+answer_of (Ok t) = Ok tt
+answer_of (Err refusal) = Err refusal
+
+-- what a call leaves of the old tally and answers is what its definition says
+pub record Leaves (said : Result Tally Refusal) (old new : Tally) (r : Result Unit Refusal) : Type 0 where
+  pub tally : new ≡ tally_after said old
+  pub answer : r ≡ answer_of said

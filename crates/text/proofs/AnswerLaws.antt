@@ -1,28 +1,28 @@
 -- From a frame's text to its line.
 -- Assumes nothing.
 use mathlib.Core.Path.{◌≡◌, refl, sym, ◌∙◌}
-use mathlib.Core.Bool.{Bool, true, false, not, cond, and-eq-true_iff}
+use mathlib.Core.Bool.{Bool, true, false, cond}
 use mathlib.Core.List.{List}
-use Prim.Native.Nat.{ℕ, ◌≤◌}
+use Prim.Native.Nat.{ℕ}
 use native.Mathlib.Omega.{arith}
 use lib.Dec.{leb}
-use lib.ListN.{length, take}
-use lib.Seq.{length-take-le}
+use lib.ListN.{length}
 use borrow.Author.Tests.{leb-false}
+use Rattle.std.specs.Prelude.{Ok, Err}
 use Rattle.bits.specs.Tab.{blank}
 use Rattle.bits.proofs.Tabs.{length-blank}
 use Rattle.line.specs.Line.{line_of}
 use Rattle.line.specs.declared.Outcome.TheVariants.{Heard}
 use Rattle.lora.specs.Read.{read_of, Reading}
+use Rattle.lora.specs.Received.{Received}
 use Rattle.lora.specs.declared.Expected.{Expected}
-use Rattle.lora.specs.declared.Received.{Received}
-use Rattle.lora.specs.declared.Received.TheVariants.{Payload, Refused}
+use Rattle.lora.specs.declared.Expected.TheVariants.{Explicit}
 use Rattle.lora.proofs.AnswerLaws.{accepts, sf-refused}
+use Rattle.refusal.specs.Refusal.{refuse}
 use Rattle.text.specs.Answer.{Shown, narrowed}
-use Rattle.text.specs.Scan.{start, run, says_frame, line_at, outcome_at, Sane}
-use Rattle.text.specs.Text.{payload_in, line_for, answer_of, outcome_is}
-use Rattle.text.specs.declared.Scan.{Scan}
-use Rattle.text.proofs.ScanLaws.{frame-two}
+use Rattle.text.specs.Said as said
+use Rattle.text.specs.Scan.{start, run, line_at, outcome_at}
+use Rattle.text.specs.Text.{Text, bad, frame, payload_in, line_for, answer_to, outcome_to, answer_of, outcome_is}
 use Rattle.text.proofs.TextLaws.{scanned}
 
 -- a payload that is answered fits the 255 cells
@@ -30,15 +30,15 @@ pub read-shown : (sf : ℕ) (low : Bool) (expected : Expected) (symbols : List �
 read-shown sf low expected symbols = one (read_of sf low expected symbols 255 832) refl
   where
     one : (r : Received) → read_of sf low expected symbols 255 832 ≡ r → Shown r
-    one (Payload a) e = (accepts sf low expected symbols 255 832 a e).fits
-    one (Refused number place) e = tt
+    one (Ok a) e = (accepts sf low expected symbols 255 832 a e).fits
+    one (Err x) e = tt
 
 -- two readings that are refused alike are the same
 pub refused-read : {sf tf : ℕ} {low : Bool} {expected other : Expected} {symbols old new hurts hurts' : List ℕ} {r : Received} (number place : ℕ)
-    → read_of sf low expected symbols (length old) (length hurts) ≡ Refused number place → read_of tf low other symbols (length old) (length hurts) ≡ Refused number place
+    → read_of sf low expected symbols (length old) (length hurts) ≡ refuse number place → read_of tf low other symbols (length old) (length hurts) ≡ refuse number place
     → Reading sf low expected symbols old new hurts hurts' r → Reading tf low other symbols old new hurts hurts' r
 refused-read {r = r} number place e f c =
-    let is : r ≡ Refused number place = c.answer ∙ e in
+    let is : r ≡ refuse number place = c.answer ∙ e in
     record {
       answer = is ∙ sym f;
       cells = (rw is at c.cells) ∙ rw is;
@@ -64,11 +64,16 @@ frame-read {sf} {low} {expected} {symbols} {r = r} c =
     let is : r ≡ read_of sf low expected symbols 255 832 = rw (length-blank {A = ℕ} 255 0, length-blank {A = ℕ} 832 0) at c.answer in
     (is, rw (c.cells, is), rw is)
 
--- a frame that was taken has its first two numbers
-pub frame-numbers : {c : Scan} {numbers : List ℕ} → Sane c numbers → says_frame c numbers ≡ true → 2 ≤ c.count
-frame-numbers {c} {numbers} p e =
-    let (going, rest) = (and-eq-true_iff (not c.refused) _).0 e in
-    omega (arith, frame-two (take c.count numbers) rest, length-take-le c.count numbers (omega arith))
+-- what was heard of a text is what it is answered by: its line and its outcome
+pub heard-line : (t : Text) {payload hurts : List ℕ} {r : Received} → said.Heard t (blank 255 0) payload (blank 832 0) hurts r
+    → Shown r × (line_of r (payload_in r payload) ≡ answer_to t) × (Heard r ≡ outcome_to t)
+heard-line t {payload} {hurts} {r} h = by t h.read
+  where
+    by : (t : Text) → said.ReadFor t (blank 255 0) payload (blank 832 0) hurts r → Shown r × (line_of r (payload_in r payload) ≡ answer_to t) × (Heard r ≡ outcome_to t)
+    by bad e = rw e.0 (tt, refl, refl)
+    by (frame sf low symbols) e =
+        let f = frame-read e in
+        (rw f.0 (read-shown sf low Explicit symbols), f.1, f.2)
 
 -- whatever pieces a text was taken in, its line is the one that answers the whole text
 pub answers-text : (bytes : List ℕ) → line_at (run start bytes) ≡ answer_of bytes

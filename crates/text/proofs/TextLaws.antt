@@ -260,3 +260,7 @@ scanned bytes = scanned-as bad frame_of (λ numbers h. crowd numbers (omega arit
 pub run-append : (s : State) (xs ys : List ℕ) → run (run s xs) ys ≡ run s (xs ++ ys)
 unfolding run
 run-append s xs ys = sym (foldl-append step s xs ys)
+
+-- bytes behind bytes
+pub run-on : (s : State) {q later : State} (xs ys : List ℕ) → q ≡ run s xs → later ≡ run q ys → later ≡ run s (xs ++ ys)
+run-on s xs ys e f = f ∙ (rw e (run-append s xs ys))

@@ -1,10 +1,9 @@
 -- A text taken byte by byte. Nothing here is needed to say what a text means: that is in Text.
 -- Assumes nothing.
-use Rattle.std.specs.Prelude.{Bool, true, false, not, ◌&&◌, cond, ◌≡◌, ℕ, ◌+◌, ◌-◌, ◌*◌, ◌≤◌, leb, ltb, eqb, length, take, get_or}
+use Rattle.std.specs.Prelude.{Bool, true, false, not, ◌&&◌, cond, ℕ, ◌+◌, ◌-◌, ◌*◌, leb, ltb, eqb, length, get_or}
 use mathlib.Core.List.{List, [], ◌∷◌, ◌++◌, foldl}
 use Rattle.line.specs.declared.Outcome.{Outcome}
 use Rattle.text.specs.Text.{is_separator, is_digit, Text, bad, frame_of, answer_to, outcome_to}
-use Rattle.text.specs.declared.Scan.{Scan}
 
 -- how far a text was taken: whether it is bad already, the digits and the value of the number that is open, and the
 -- numbers before it
@@ -44,6 +43,10 @@ step s b =
 unfoldable pub run : State → List ℕ → State
 run s bytes = foldl step s bytes
 
+-- nothing but separators was taken
+unfoldable pub empty : State → Bool
+empty s = not s.refused && (eqb s.digits 0 && eqb (length s.numbers) 0)
+
 -- the end of the text: it shuts the open number too
 unfoldable pub ended : State → State
 ended s = cond s.refused s (shut s)
@@ -63,31 +66,3 @@ line_at s = answer_to (taken s)
 
 unfoldable pub outcome_at : State → Outcome
 outcome_at s = outcome_to (taken s)
-
--- the state that the struct and the list of numbers hold
-unfoldable pub state_of : Scan → List ℕ → State
-state_of c numbers = record { refused = c.refused; digits = c.digits; value = c.value; numbers = take c.count numbers }
-
--- the struct, refused
-abbrev pub refusing : Scan → Scan
-refusing c = record { refused = true; digits = c.digits; value = c.value; count = c.count }
-
--- a struct as scanning makes it, with a list of 837 numbers
-pub record Sane (c : Scan) (numbers : List ℕ) : Type 0 where
-  pub few : c.digits ≤ 5
-  pub small : c.value ≤ 65535
-  pub placed : c.count ≤ 837
-  pub long : length numbers ≡ 837
-
--- the struct and the list hold the state s
-pub record Holds (s : State) (c : Scan) (numbers : List ℕ) : Type 0 where
-  pub sane : Sane c numbers
-  pub is : state_of c numbers ≡ s
-
--- whether numbers are a frame: two or more, no more than a frame has, and the second is 0 or 1
-abbrev pub is_frame : List ℕ → Bool
-is_frame numbers = leb 2 (length numbers) && (leb (length numbers) 834 && leb (get_or numbers 1 0) 1)
-
--- whether a text that has ended is a frame
-abbrev pub says_frame : Scan → List ℕ → Bool
-says_frame c numbers = not c.refused && is_frame (take c.count numbers)

@@ -1,6 +1,6 @@
 -- Document 01, "Reading program": the text that it takes, as a list of bytes.
 -- Assumes nothing.
-use Rattle.std.specs.Prelude.{Bool, true, ◌&&◌, ◌||◌, cond, ℕ, ◌+◌, ◌-◌, ◌*◌, leb, eqb, length, get_or, take, drop}
+use Rattle.std.specs.Prelude.{Bool, true, ◌&&◌, ◌||◌, cond, ℕ, ◌+◌, ◌-◌, ◌*◌, leb, eqb, length, get_or, take, drop, Ok, Err}
 use mathlib.Core.List.{List, [], ◌∷◌, ◌++◌, map, foldl}
 use Rattle.bits.specs.Bit.{is_set}
 use Rattle.bits.specs.Check.{check}
@@ -11,8 +11,8 @@ use Rattle.line.specs.declared.Outcome.TheVariants.{Heard}
 use Rattle.lora.specs.Read.{read_of, bytes_after}
 use Rattle.lora.specs.declared.Expected.{Expected}
 use Rattle.lora.specs.declared.Expected.TheVariants.{Explicit}
-use Rattle.lora.specs.declared.Received.{Received}
-use Rattle.lora.specs.declared.Received.TheVariants.{Payload, Refused}
+use Rattle.lora.specs.Received.{Received}
+use Rattle.refusal.specs.Refusal.{refuse}
 
 -- spaces and line ends stand between numbers
 abbrev pub is_separator : ℕ → Bool
@@ -67,8 +67,8 @@ text_of words = check (all is_number words) bad (frame_of (map value_of words))
 
 -- the payload of an answer, in the cells that were read into
 abbrev pub payload_in : Received → List ℕ → List ℕ
-payload_in (Payload a) cells = take a.length cells
-payload_in (Refused number place) cells = []
+payload_in (Ok a) cells = take a.length cells
+payload_in (Err e) cells = []
 
 -- the line for what read answers, into 255 cells and a list of 832
 abbrev pub line_for : ℕ → Bool → Expected → List ℕ → Received → List ℕ
@@ -76,7 +76,7 @@ line_for sf low expected symbols r = line_of r (payload_in r (bytes_after r sf l
 
 -- the line that answers a text, whose frame has a header; any text that can't be taken is refusal 14
 abbrev pub answer_to : Text → List ℕ
-answer_to bad = line_of (Refused 14 0) []
+answer_to bad = line_of (refuse 14 0) []
 answer_to (frame sf low symbols) = line_for sf low Explicit symbols (read_of sf low Explicit symbols 255 832)
 
 unfoldable pub answer_of : List ℕ → List ℕ
@@ -84,7 +84,7 @@ answer_of bytes = answer_to (text_of (words_from [] bytes))
 
 -- what came of a text: what read says of its frame; any text that can't be taken is refusal 14
 abbrev pub outcome_to : Text → Outcome
-outcome_to bad = Heard (Refused 14 0)
+outcome_to bad = Heard (refuse 14 0)
 outcome_to (frame sf low symbols) = Heard (read_of sf low Explicit symbols 255 832)
 
 unfoldable pub outcome_is : List ℕ → Outcome

@@ -1,7 +1,7 @@
 // Whitening: payload bytes are XORed with the whitening bytes, and XORed again they are themselves.
 #![tactic(auto)]
 
-ghost use Rattle.std.specs.Prelude.{◌≡◌, ◌≤◌, length, get_or};
+ghost use Rattle.std.specs.Prelude.{◌≡◌, ◌≤◌, get_or};
 ghost use Rattle.bits.specs.Tab.{over};
 ghost use Rattle.whitening.specs.Whitening.{whitened};
 
@@ -23,11 +23,12 @@ const TABLE: [u8; 255] = [
 
 // Whitens the first len of the bytes. A constant array is copied at each use: here once a call.
 pub fn whiten(bytes: &mut [u8; 255], len: usize)
-    requires { (len ≤ 255) × (length bytes.old ≡ 255) }
+    requires { len ≤ 255 }
     ensures { bytes.new ≡ over len (whitened (λ p. get_or bytes.old p 0)) bytes.old }
 {
     let table = TABLE;
-    for p in 0..len {
-        bytes[p] = bytes[p] ^ table[p];
+    // By the place and not by zip: behind an adapter of iter_mut no proof knows what the cells hold.
+    for (p, byte) in bytes[..len].iter_mut().enumerate() {
+        *byte ^= table[p];
     }
 }

@@ -6,7 +6,7 @@ use Prim.Native.Nat.{ℕ, ◌-◌, ◌<◌, ◌≤◌}
 use native.Mathlib.Omega.{arith}
 use borrow.Author.Tests.{leb-true, le-leb, lt-leb}
 use lib.Dec.{leb}
-use Rattle.bits.proofs.Truth.{refuted}
+use Rattle.std.specs.Prelude.{Some, None}
 use Rattle.wish.specs.Wish.{is_hex, hex_value}
 use Rattle.wish.specs.Scan.{digit_of}
 
@@ -22,41 +22,22 @@ hex-small b p = first (leb b 57) refl p
     first true e q = omega (arith, leb-true b 57 e)
     first false e q = second (leb b 70) refl (rw (and-false (leb 48 b)) at q)
 
--- the code's value of a digit: below 16 it is one
-module _ {r : ℕ} (b : ℕ) (is : r ≡ digit_of b) where
-  pub is-hex : r < 16 → is_hex b ≡ true
-  is-hex h = go (is_hex b) is
-    where
-      go : (t : Bool) → r ≡ cond t (hex_value b) 16 → t ≡ true
-      go true q = refl
-      go false q = absurd (omega arith)
+-- the code's value of a digit
+pub record Digit (b value : ℕ) : Type 0 where
+  pub hex : is_hex b ≡ true
+  pub is : value ≡ hex_value b
+  pub small : value < 16
 
-  pub no-hex : 16 ≤ r → is_hex b ≡ false
-  no-hex h = refuted (is_hex b) (λ p. omega (arith, hex-small b p, rw p at is))
+pub some-digit : (b value : ℕ) → Some value ≡ digit_of b → Digit b value
+some-digit b value e = go (is_hex b) refl e
+  where
+    go : (t : Bool) → is_hex b ≡ t → Some value ≡ cond t (Some (hex_value b)) None → Digit b value
+    go true p q = let v : value ≡ hex_value b = cc in record { hex = p; is = v; small = omega (arith, v, hex-small b p) }
+    go false p q = cc
 
-  pub hex-is : r < 16 → r ≡ hex_value b
-  hex-is h = rw (is-hex h) at is
-
--- where a byte lies among the digits, in the code's order
-pub below-digits : (b : ℕ) → b < 48 → 16 ≡ digit_of b
-below-digits b h = rw (lt-leb 48 b h, lt-leb 65 b (omega arith), lt-leb 97 b (omega arith))
-
-pub decimal_digit : (b : ℕ) → 48 ≤ b → b ≤ 57 → b - 48 ≡ digit_of b
-decimal_digit b h l = rw (le-leb 48 b h, le-leb b 57 l)
-
-pub below-capitals : (b : ℕ) → 57 < b → b < 65 → 16 ≡ digit_of b
-below-capitals b h l = rw (lt-leb b 57 h, and-false (leb 48 b), lt-leb 65 b l, lt-leb 97 b (omega arith))
-
-pub capital-digit : (b : ℕ) → 65 ≤ b → b ≤ 70 → b - 55 ≡ digit_of b
-capital-digit b h l = rw (lt-leb b 57 (omega arith), and-false (leb 48 b), le-leb 65 b h, le-leb b 70 l)
-
-pub below-smalls : (b : ℕ) → 70 < b → b < 97 → 16 ≡ digit_of b
-below-smalls b h l = rw (lt-leb b 57 (omega arith), and-false (leb 48 b), lt-leb b 70 h, and-false (leb 65 b), lt-leb 97 b l)
-
-pub small-digit : (b : ℕ) → 97 ≤ b → b ≤ 102 → b - 87 ≡ digit_of b
-small-digit b h l =
-    rw (lt-leb b 57 (omega arith), and-false (leb 48 b), lt-leb b 70 (omega arith), and-false (leb 65 b), le-leb 97 b h, le-leb b 102 l)
-
-pub above-digits : (b : ℕ) → 102 < b → 16 ≡ digit_of b
-above-digits b h =
-    rw (lt-leb b 57 (omega arith), and-false (leb 48 b), lt-leb b 70 (omega arith), and-false (leb 65 b), lt-leb b 102 h, and-false (leb 97 b))
+pub no-digit : (b : ℕ) → None ≡ digit_of b → is_hex b ≡ false
+no-digit b e = go (is_hex b) e
+  where
+    go : (t : Bool) → None ≡ cond t (Some (hex_value b)) None → t ≡ false
+    go true q = cc
+    go false q = refl

@@ -17,7 +17,7 @@ use Rattle.wish.specs.Scan.{shut_word, grown_word, added, complete}
 use Rattle.wish.specs.declared.Word.{Word}
 use Rattle.wish.specs.declared.Word.TheVariants.{Before, Hyphen, Whole, Half, Closed, Bad}
 use Rattle.wish.proofs.HexLaws.{hex-small}
-use Rattle.wish.proofs.ScanLaws.{added-no-high, added-no-low, added-one}
+use Rattle.wish.proofs.ScanLaws.{added-no-low, added-one}
 
 -- two digits more, and what is a hyphen
 bytes-more : (word rest : List ℕ) → length word % 2 ≡ 0 → bytes_of (word ++ rest) ≡ bytes_of word ++ bytes_of rest
@@ -94,8 +94,8 @@ spoils word b h e =
 -- a byte more that is no separator
 pub reads_more : (word : List ℕ) (w : Word) (payload : List ℕ) (b : ℕ) → Reads word w payload
     → Reads (word ++ (b ∷ [])) (grown_word w b) (take 256 (payload ++ added w b))
-unfolding bytes_of all is_hyphen
-reads_more word Before payload b (e, q) = rw (e, q, added-no-high Before b (omega arith)) (go (eqb b 45) (is_hex b) refl refl)
+unfolding bytes_of all is_hyphen added
+reads_more word Before payload b (e, q) = rw (e, q) (go (eqb b 45) (is_hex b) refl refl)
   where
     go : (t h : Bool) → eqb b 45 ≡ t → is_hex b ≡ h → Reads (b ∷ []) (cond t Hyphen (cond h (Half (hex_value b)) Bad)) []
     go true h f g = (rw (eqb-true b 45 f), refl)
@@ -103,7 +103,7 @@ reads_more word Before payload b (e, q) = rw (e, q, added-no-high Before b (omeg
     go false false f g = record { some = omega arith; alone = f; other = rw g }
 reads_more word Hyphen payload b (e, q) = rw e (record { some = omega arith; alone = refl; other = refl })
 reads_more word Whole payload b p =
-    rw (added-no-high Whole b (omega arith), p.bytes, take-take-nil 256 (bytes_of word)) (go (is_hex b) refl)
+    rw (p.bytes, take-take-nil 256 (bytes_of word)) (go (is_hex b) refl)
   where
     go : (h : Bool) → is_hex b ≡ h → Reads (word ++ (b ∷ [])) (cond h (Half (hex_value b)) Bad) (take 256 (bytes_of word))
     go true g = upper word b p.hex p.pairs refl g
@@ -116,7 +116,7 @@ reads_more word (Half high) payload b p = go (is_hex b) refl
           some = omega (arith, length_more word b);
           hex = rw (all_more is_hex word b, p.hex, g);
           pairs = omega (arith, length_more word b, p.odd);
-          bytes = rw (added-one (Half high) b p.small g, p.bytes, p.next b) (take-take-append 256 (bytes_of word) ((high * 16 + hex_value b) ∷ []));
+          bytes = rw (added-one high b p.small g, p.bytes, p.next b) (take-take-append 256 (bytes_of word) ((high * 16 + hex_value b) ∷ []));
         }
     go false g = spoils word b (omega (arith, p.odd)) g
 reads_more word Closed payload b p = absurd p

@@ -23,7 +23,7 @@ use Rattle.layout.specs.Ranges.{Valid}
 use Rattle.layout.specs.declared.Frame.{Frame}
 use Rattle.lora.specs.Code.{sent_nibble, sent_symbol, code_of}
 use Rattle.lora.specs.Count.{cr_of, expected_of, frame_of, takes}
-use Rattle.lora.specs.declared.Counted.TheVariants.{Symbols}
+use Rattle.std.proofs.Common.{Ok}
 use Rattle.lora.specs.declared.Expected.TheVariants as expected
 use Rattle.lora.specs.declared.Kind.{Kind}
 use Rattle.lora.specs.declared.Kind.TheVariants.{Explicit, Agreed}
@@ -212,7 +212,7 @@ kind_fits (Explicit cr flag) len e h l = tt
 kind_fits (Agreed agreed cr flag) len e h l = (omega (arith, takes-agreed agreed cr flag len e), omega arith)
 
 -- What the program writes for a wish that is accepted is the capture of the frame that was sent, for a reader that expects its kind.
-pub written-taken : (s : Settings) (payload : List ℕ) (count : ℕ) → code_of s payload 832 ≡ Symbols count
+pub written-taken : (s : Settings) (payload : List ℕ) (count : ℕ) → code_of s payload 832 ≡ Ok count
     → capture_of (answer_to (wish s payload)) ≡ frame s.sf s.low (expected_of s.kind) (tab count (sent_symbol (frame_of s) payload))
 written-taken s payload count e =
     let (c, few) = coded s payload 832 count e in

@@ -1,25 +1,15 @@
 -- What the steps of answering a wish are asked with.
 -- Assumes nothing.
-use Rattle.std.specs.Prelude.{Bool, ◌&&◌, cond, List, [], ℕ, ◌≤◌, eqb, take}
+use Rattle.std.specs.Prelude.{Bool, List, [], ℕ, ◌≤◌, eqb, length, take, Option, Some, None, Result, Ok, Err}
+use Rattle.bits.specs.Check.{check}
 use Rattle.line.specs.Line.{line_of}
 use Rattle.lora.specs.declared.Kind.{Kind}
 use Rattle.lora.specs.declared.Kind.TheVariants.{Explicit, Agreed}
 use Rattle.lora.specs.declared.Settings.{Settings}
-use Rattle.lora.specs.declared.Counted.{Counted}
-use Rattle.lora.specs.declared.Counted.TheVariants.{Symbols, Refused}
-use Rattle.lora.specs.declared.Received.TheVariants as received
+use Rattle.refusal.specs.declared.Refusal.{Refusal}
 use Rattle.text.specs.Answer.{narrowed}
-use Rattle.wish.specs.Scan.{complete, front, flags_in}
+use Rattle.wish.specs.Scan.{State, complete, front, flags_in, settings_in}
 use Rattle.wish.specs.Wish.{frame_line}
-use Rattle.wish.specs.declared.Scan.{Scan}
-
--- whether a text that has ended is a wish: the payload's word is one, the numbers before it are there, flags are 0 or 1
-abbrev pub is_wish : Scan → List ℕ → Bool
-is_wish c numbers = complete c.word && (eqb c.head.text.count (front c.head.agreed) && flags_in c.head.agreed numbers)
-
--- how the two sides know the rest: it was agreed, or a header says it
-abbrev pub kind_for : Bool → ℕ → ℕ → Bool → Kind
-kind_for agreed len cr flag = cond agreed (Agreed len cr flag) (Explicit cr flag)
 
 -- the settings that the operations take
 abbrev pub narrow_kind : Kind → Kind
@@ -29,12 +19,23 @@ narrow_kind (Agreed len cr flag) = Agreed len (narrowed cr) flag
 unfoldable pub narrow : Settings → Settings
 narrow s = record { sf = narrowed s.sf; low = s.low; kind = narrow_kind s.kind }
 
+-- what the numbers in front of a payload say, as the operations take it: they are there, and their flags are 0 or 1
+unfoldable pub settings_in_front : Bool → List ℕ → Option Settings
+settings_in_front agreed numbers =
+    check (eqb (length numbers) (front agreed)) None
+    (check (flags_in agreed numbers) None
+    (Some (narrow (settings_in agreed numbers))))
+
+-- of a text that ends here, where the payload's word is one
+unfoldable pub settings_taken : State → Option Settings
+settings_taken s = check (complete s.word) None (settings_in_front s.head.agreed s.head.text.numbers)
+
 -- the line for what was coded into these symbols
-abbrev pub sent_line : Settings → Counted → List ℕ → List ℕ
-sent_line s (Symbols count) symbols = frame_line s (take count symbols)
-sent_line s (Refused number place) symbols = line_of (received.Refused number place) []
+abbrev pub sent_line : Settings → Result ℕ Refusal → List ℕ → List ℕ
+sent_line s (Ok count) symbols = frame_line s (take count symbols)
+sent_line s (Err refusal) symbols = line_of (Err refusal) []
 
 -- an answer whose symbols fit the list
-abbrev pub Fitted : Counted → Type 0
-Fitted (Symbols count) = count ≤ 832
-Fitted (Refused number place) = Unit
+abbrev pub Fitted : Result ℕ Refusal → Type 0
+Fitted (Ok count) = count ≤ 832
+Fitted (Err refusal) = Unit

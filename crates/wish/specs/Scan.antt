@@ -1,16 +1,14 @@
 -- A wish taken byte by byte. Nothing here is needed to say what a wish means: that is in Wish.
 -- Assumes nothing.
-use Rattle.std.specs.Prelude.{Bool, true, false, ◌&&◌, cond, ◌≡◌, ℕ, ◌+◌, ◌*◌, ◌%◌, ◌≤◌, ltb, eqb, length, take, drop, get_or}
+use Rattle.std.specs.Prelude.{Bool, true, false, Option, Some, None, ◌&&◌, cond, ℕ, ◌+◌, ◌*◌, ltb, eqb, length, take, drop, get_or}
 use mathlib.Core.List.{List, [], ◌∷◌, ◌++◌, foldl}
 use Rattle.bits.specs.Bit.{as_bit}
 use Rattle.bits.specs.Check.{check}
-use Rattle.bits.specs.Tab.{tab}
 use Rattle.capture.specs.Scan as head
 use Rattle.line.specs.declared.Outcome.{Outcome}
 use Rattle.lora.specs.declared.Settings.{Settings}
 use Rattle.text.specs.Text.{is_separator}
 use Rattle.wish.specs.Wish.{is_hex, hex_value, Wish, bad, wish, settings_of, flags_hold, with_length, answer_to, outcome_to}
-use Rattle.wish.specs.declared.Scan.{Scan}
 use Rattle.wish.specs.declared.Word.{Word}
 use Rattle.wish.specs.declared.Word.TheVariants.{Before, Hyphen, Whole, Half, Closed, Bad}
 
@@ -33,9 +31,9 @@ shut_word (Half high) = Bad
 shut_word Closed = Closed
 shut_word Bad = Bad
 
--- the value of a hex digit; 16 for any other byte
-abbrev pub digit_of : ℕ → ℕ
-digit_of b = cond (is_hex b) (hex_value b) 16
+-- the value of a hex digit; none of any other byte
+abbrev pub digit_of : ℕ → Option ℕ
+digit_of b = cond (is_hex b) (Some (hex_value b)) None
 
 -- a byte's upper digit
 abbrev pub opened : ℕ → Word
@@ -57,18 +55,14 @@ grown_word Bad b = Bad
 unfoldable pub next_word : Word → ℕ → Word
 next_word word b = cond (is_separator b) (shut_word word) (grown_word word b)
 
--- the upper digit that stands open; 16 if none does
-abbrev pub high_of : Word → ℕ
-high_of Before = 16
-high_of Hyphen = 16
-high_of Whole = 16
-high_of (Half high) = high
-high_of Closed = 16
-high_of Bad = 16
-
--- the payload's byte that a byte of the text is the end of, if any
+-- the payload's byte that a byte of the text is the end of, if any: an upper digit stands open, and the byte is a digit
 unfoldable pub added : Word → ℕ → List ℕ
-added word b = cond (ltb (high_of word) 16 && is_hex b) ((high_of word * 16 + hex_value b) ∷ []) []
+added Before b = []
+added Hyphen b = []
+added Whole b = []
+added (Half high) b = cond (ltb high 16 && is_hex b) ((high * 16 + hex_value b) ∷ []) []
+added Closed b = []
+added Bad b = []
 
 -- the numbers before the payload: four, and behind a mark the agreed length in front of them
 abbrev pub front : Bool → ℕ
@@ -83,6 +77,9 @@ settings_in agreed numbers = cond agreed (with_length (get_or numbers 0 0) (sett
 -- those numbers, then the payload's word; of the payload 256 bytes are kept, which are too many
 unfoldable pub headed : State → ℕ → State
 headed s b = record { head = head.step s.head b; word = Before; payload = [] }
+
+unfoldable pub kept : State → ℕ → State
+kept s b = record { head = s.head; word = s.word; payload = take 256 (s.payload ++ added s.word b) }
 
 unfoldable pub worded : State → ℕ → State
 worded s b = record { head = s.head; word = next_word s.word b; payload = take 256 (s.payload ++ added s.word b) }
@@ -119,36 +116,3 @@ line_at s = answer_to (taken s)
 
 unfoldable pub outcome_at : State → Outcome
 outcome_at s = outcome_to (taken s)
-
--- the payload's bytes stand behind room for five numbers, one a cell
-unfoldable pub byte_in : List ℕ → ℕ → ℕ
-byte_in numbers i = get_or numbers (5 + i) 0 % 256
-
--- the state that the struct and the list of numbers hold
-unfoldable pub state_of : Scan → List ℕ → State
-state_of c numbers = record { head = head.state_of c.head numbers; word = c.word; payload = tab c.bytes (byte_in numbers) }
-
--- a struct as scanning makes it, with a list of 837 numbers
-pub record Sane (c : Scan) (numbers : List ℕ) : Type 0 where
-  pub head : head.Sane c.head numbers
-  pub few : c.head.text.count ≤ front c.head.agreed
-  pub kept : c.bytes ≤ 256
-  pub long : length numbers ≡ 837
-
--- the struct and the list hold the state s
-pub record Holds (s : State) (c : Scan) (numbers : List ℕ) : Type 0 where
-  pub sane : Sane c numbers
-  pub is : state_of c numbers ≡ s
-
--- the struct before the first byte
-pub record Begun (c : Scan) : Type 0 where
-  pub head : head.Begun c.head
-  pub word : c.word ≡ Before
-  pub bytes : c.bytes ≡ 0
-
--- a byte of the text was kept, if it ends one of the payload's: in the list old, which then is new
-pub record Kept (word : Word) (b n : ℕ) (old new : List ℕ) (r : ℕ) : Type 0 where
-  pub front : (i : ℕ) → i ≤ 5 → take i new ≡ take i old
-  pub is : tab r (byte_in new) ≡ take 256 (tab n (byte_in old) ++ added word b)
-  pub few : r ≤ 256
-  pub long : length new ≡ length old

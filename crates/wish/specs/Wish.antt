@@ -1,6 +1,6 @@
 -- The coding program's text: a wish for a frame, as a list of bytes, and the line that answers it.
 -- Assumes nothing.
-use Rattle.std.specs.Prelude.{Bool, false, ◌&&◌, ◌||◌, cond, ℕ, ◌+◌, ◌-◌, ◌*◌, ◌%◌, leb, eqb, length, get_or, take, drop}
+use Rattle.std.specs.Prelude.{Bool, false, ◌&&◌, ◌||◌, cond, ℕ, ◌+◌, ◌-◌, ◌*◌, ◌%◌, leb, eqb, length, get_or, take, drop, Result, Ok, Err}
 use mathlib.Core.List.{List, [], ◌∷◌, ◌++◌, map, flat_map}
 use Rattle.bits.specs.Bit.{is_set, as_bit}
 use Rattle.bits.specs.Check.{check}
@@ -14,9 +14,8 @@ use Rattle.lora.specs.Count.{cr_of, checked_of, frame_of}
 use Rattle.lora.specs.declared.Kind.{Kind}
 use Rattle.lora.specs.declared.Kind.TheVariants.{Explicit, Agreed}
 use Rattle.lora.specs.declared.Settings.{Settings}
-use Rattle.lora.specs.declared.Counted.{Counted}
-use Rattle.lora.specs.declared.Counted.TheVariants.{Symbols, Refused}
-use Rattle.lora.specs.declared.Received.TheVariants as received
+use Rattle.refusal.specs.Refusal.{refuse}
+use Rattle.refusal.specs.declared.Refusal.{Refusal}
 use Rattle.text.specs.Text.{is_separator, is_digit, all, words_from, is_number, value_of}
 
 -- a hex digit of either case, and its value
@@ -98,17 +97,17 @@ unfoldable pub frame_line : Settings → List ℕ → List ℕ
 frame_line s symbols = front_of s.kind ++ (decimal s.sf ++ (field (as_bit s.low) ++ (fields symbols ++ (10 ∷ []))))
 
 -- the line for what code answers, into a list of 832 cells; what came of it
-abbrev pub line_for : Settings → List ℕ → Counted → List ℕ
-line_for s payload (Symbols count) = frame_line s (tab count (sent_symbol (frame_of s) payload))
-line_for s payload (Refused number place) = line_of (received.Refused number place) []
+abbrev pub line_for : Settings → List ℕ → Result ℕ Refusal → List ℕ
+line_for s payload (Ok count) = frame_line s (tab count (sent_symbol (frame_of s) payload))
+line_for s payload (Err refusal) = line_of (Err refusal) []
 
-abbrev pub outcome_for : Counted → Outcome
-outcome_for (Symbols count) = Made
-outcome_for (Refused number place) = Unmade
+abbrev pub outcome_for : Result ℕ Refusal → Outcome
+outcome_for (Ok count) = Made
+outcome_for (Err refusal) = Unmade
 
 -- any text that can't be taken is refusal 14
 abbrev pub answer_to : Wish → List ℕ
-answer_to bad = line_of (received.Refused 14 0) []
+answer_to bad = line_of (refuse 14 0) []
 answer_to (wish s payload) = line_for s payload (code_of s payload 832)
 
 abbrev pub outcome_to : Wish → Outcome

@@ -1,26 +1,20 @@
 use mathlib.Core.Path.{◌∙◌}
 use native.Mathlib.Omega.{arith}
 use Rattle.bits.specs.Tab.{blank}
-use Rattle.block.proofs.GridLoop.{column-lt, longer, columns-none, columns-more, columns-all}
+use Rattle.block.proofs.GridLoop.{column-lt, longer, columns-all, gathered-none, gathered-more}
 use borrow.Author.Rules.{rules}
 use Rattle.block.proofs.columns_of_grid.Goals as goal
 
-pub loop-i-init : goal.loop-i-init
+pub loop-row-init : goal.loop-row-init
 unfolding blank
-loop-i-init c = (search rules, columns-none _ _)
+loop-row-init c = gathered-none c.args.n c.args.g (search rules) (omega arith)
 
 pub with_row-longer-requires : goal.with_row-longer-requires
-with_row-longer-requires c =
-    let a = c.args in
-    let l = c.loop-i in
-    λ j h. column-lt a.n a.g l.i j (omega arith) h l.invariant.1
+with_row-longer-requires c = λ j h. column-lt c.args.n c.args.g _ j (omega arith) h c.loop-row.invariant.are
 
-pub loop-i-preserved : goal.loop-i-preserved
+pub loop-row-preserved : goal.loop-row-preserved
 unfolding longer
-loop-i-preserved c =
-    let a = c.args in
-    let l = c.loop-i in
-    (search rules, c.with_row-longer.ensures ∙ columns-more a.n a.g l.i (omega arith) (omega arith) l.invariant.1)
+loop-row-preserved c = gathered-more c.in-Some.row.now c.loop-row.invariant c.in-Some.ensures.steps c.with_row-longer.ensures
 
 pub returns : goal.returns
-returns c = c.loop-i.invariant.1 ∙ columns-all _ _ _ (omega arith)
+returns c = c.loop-row.invariant.are ∙ columns-all _ _ _ (c.in-None.ensures.steps.0)

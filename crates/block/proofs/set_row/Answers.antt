@@ -11,14 +11,13 @@ use borrow.Author.Rules.{rules}
 use Rattle.block.proofs.set_row.Goals as goal
 
 pub loop-j-init : goal.loop-j-init
-loop-j-init c = (search rules, filled_none _ _)
+loop-j-init c = filled_none _ _
 
 pub loop-j-preserved : goal.loop-j-preserved
 unfolding cell_of_columns bit
-loop-j-preserved c = (search rules, filled_more c.loop-j.invariant.1 (omega arith) refl)
+loop-j-preserved c = filled_more c.loop-j.invariant (search rules) refl
 
 pub returns : goal.returns
 unfolding row cell_of_columns
 returns c =
-    let l = c.loop-j in
-    filled-end l.invariant.1 (omega arith) ∙ over-all 8 _ c.args.cells.now (omega arith) ∙ sym (over-all 8 _ (blank 8 false) (omega (arith, length-blank 8 false)))
+    filled-end c.loop-j.invariant (search rules) ∙ over-all 8 _ c.args.cells.now (omega arith) ∙ sym (over-all 8 _ (blank 8 false) (omega (arith, length-blank 8 false)))

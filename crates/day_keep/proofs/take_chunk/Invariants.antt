@@ -2,11 +2,10 @@
 -- Assumes nothing.
 use Prim.Native.Nat.{◌≤◌, ◌-◌}
 use lib.ListN.{length}
-use Rattle.keep.specs.Rows.{Going}
 use Rattle.day_keep.proofs.take_chunk.Given as goal
 
 abbrev pub invariant-loop-at : goal.invariant-loop-at
-invariant-loop-at l = Going l.so_far l.numbers l.settings l.frames l.payloads l.refused × (l.at ≤ length l.chunk)
+invariant-loop-at l = l.at ≤ length l.chunk
 
 abbrev pub decreases-loop-at : goal.decreases-loop-at
 decreases-loop-at l = length l.chunk - l.at

@@ -38,7 +38,7 @@ straight c =
 
 -- one time round
 round_is : (c : After-power-round) → c.power-round.result ≡ 2 ^ c.args.sf
-round_is c = c.power-round.ensures.0 ∙ ap (λ (k : ℕ). 2 ^ k) c.wide.ensures
+round_is c = c.power-round.ensures.0 ∙ ap (λ (k : ℕ). 2 ^ k) c.from.ensures
 
 pub overflow_add-mark : goal.overflow_add-mark
 overflow_add-mark c = record { fits = omega (arith, mark-lt c, power_le c.before) }

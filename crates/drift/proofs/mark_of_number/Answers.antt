@@ -8,10 +8,6 @@ use Rattle.drift.proofs.mark_of_number.Goals as goal
 
 pub number_of_value-requires : goal.number_of_value-requires
 number_of_value-requires c =
-    let ten : c.wide-n.result - 2 ≤ 10 = omega (arith, c.wide-n.ensures, c.requires.1) in
-    let few : 2 ^ (c.wide-n.result - 2) ≤ 2 ^ 10 = pow_mono ten in
-    omega (arith, c.value_of_number.ensures, few, value-of-number-lt (c.wide-n.result - 2) c.args.s)
-
-pub returns : goal.returns
-unfolding mark_of
-returns c = cc
+    let ten : c.from-n.result - 2 ≤ 10 = omega (arith, c.from-n.ensures, c.requires.1) in
+    let few : 2 ^ (c.from-n.result - 2) ≤ 2 ^ 10 = pow_mono ten in
+    omega (arith, c.value_of_number.ensures, few, value-of-number-lt (c.from-n.result - 2) c.args.s)

@@ -16,4 +16,4 @@ pub returns : goal.returns
 unfolding blank line_at outcome_at taken
 returns c =
     let heard = c.receive-received.ensures in
-    rw (← c.finish-done.ensures.is, ← (hurt-line heard).1, ← (heard-line heard).2) c.answer_with.ensures
+    rw (← c.finish.ensures, ← (hurt-line heard).1, ← (heard-line heard).2) c.answer_with.ensures

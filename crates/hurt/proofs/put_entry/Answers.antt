@@ -16,11 +16,11 @@ put-after_colon-requires c = omega (arith, field-short c.args.symbol c.requires.
 
 pub put_decimal-requires : goal.put_decimal-requires
 put_decimal-requires c =
-    omega (arith, field-short c.args.symbol c.requires.0, decimal-short c.wide.result (search rules))
+    omega (arith, field-short c.args.symbol c.requires.0, decimal-short c.from.result (search rules))
 
 pub returns : goal.returns
 returns c = (
-  rw (entry-some c.args.symbol c.args.count c.if-count-eq0.false c.wide.ensures)
+  rw (entry-some c.args.symbol c.args.count c.if-count-eq0.false c.from.ensures)
       (put_on c.put_field-after_symbol.ensures.0 (put_on c.put-after_colon.ensures c.put_decimal.ensures)),
-  omega (arith, field-short c.args.symbol c.requires.0, decimal-short c.wide.result (search rules)),
+  omega (arith, field-short c.args.symbol c.requires.0, decimal-short c.from.result (search rules)),
 )

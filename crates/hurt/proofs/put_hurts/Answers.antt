@@ -1,4 +1,3 @@
-use lib.Seq.{take_all}
 use Rattle.put.proofs.Puts.{put_on, put-none}
 use Rattle.hurt.specs.Hurt.{entries_from}
 use Rattle.hurt.proofs.EntryLaws.{entries-more}
@@ -7,16 +6,10 @@ use Rattle.hurt.proofs.put_hurts.Goals as goal
 
 pub loop-i-init : goal.loop-i-init
 unfolding entries_from
-loop-i-init c = (search rules, search rules, search rules, put-none _ _ (search rules))
+loop-i-init c = (search rules, put-none _ _ (search rules))
 
 pub loop-i-preserved : goal.loop-i-preserved
 loop-i-preserved c = (
   search rules,
-  search rules,
-  search rules,
-  rw (← entries-more c.args.hurts.now c.loop-i.i (search rules)) (put_on c.loop-i.invariant.3 c.put_entry-next.ensures.0),
+  rw (← entries-more c.args.hurts.now c.loop-i.i (search rules)) (put_on c.loop-i.invariant.1 c.put_entry-next.ensures.0),
 )
-
-pub returns : goal.returns
-returns c =
-    (rw (take_all c.loop-i.i c.args.hurts.now (search rules)) at c.loop-i.invariant.3, search rules)

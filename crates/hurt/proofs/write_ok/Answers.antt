@@ -8,4 +8,4 @@ use Rattle.hurt.proofs.write_ok.Goals as goal
 pub returns : goal.returns
 unfolding ok_line
 returns c =
-    (put_on c.put_word-after_ok.ensures (put_on c.put_hurts-after_hurts.ensures.0 c.put.ensures), search rules)
+    (put_on c.put_words-after_ok.ensures (put_on c.put_hurts-after_hurts.ensures.0 c.put.ensures), search rules)

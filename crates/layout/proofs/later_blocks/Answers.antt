@@ -15,8 +15,9 @@ pub nonzero_div-result : goal.nonzero_div-result
 nonzero_div-result c = omega (arith, c.rows_of_later-rows.ensures, rows-range _ c.requires.0)
 
 pub returns-then-nibbles-first_rows : goal.returns-then-nibbles-first_rows
+unfolding rows_of_first
 returns-then-nibbles-first_rows c = sym (no-later _ _ c.requires.0 (omega arith))
 
 pub returns-else-nibbles-first_rows : goal.returns-else-nibbles-first_rows
-unfolding later_blocks remaining rows_of_first
-returns-else-nibbles-first_rows c = rw (c.rows_of_later-rows.ensures, c.wide-first_rows.ensures)
+unfolding later_blocks remaining
+returns-else-nibbles-first_rows c = rw (c.rows_of_later-rows.ensures, c.rows_of_first-first_rows.ensures)

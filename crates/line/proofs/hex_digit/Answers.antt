@@ -1,5 +1,6 @@
 -- `hex_digit` answers the digit of the definition.
 -- Assumes nothing.
+use native.Mathlib.Omega.{arith}
 use borrow.Author.Tests.{lt-ltb, le-ltb}
 use Rattle.line.specs.Line.{hex_digit}
 use Rattle.line.proofs.hex_digit.Goals as goal
@@ -10,4 +11,4 @@ returns-then-d-lt10 c = rw (lt-ltb _ _ c.if-d-lt10.true)
 
 pub returns-else-d-lt10 : goal.returns-else-d-lt10
 unfolding hex_digit
-returns-else-d-lt10 c = rw (le-ltb _ _ c.if-d-lt10.false)
+returns-else-d-lt10 c = rw (le-ltb _ _ c.if-d-lt10.false) (omega arith)

@@ -7,7 +7,7 @@ use Rattle.panel.proofs.closing.Goals as goal
 pub returns : goal.returns
 unfolding closing_line
 returns c =
-    rw (← c.clean_in.ensures, ← c.wide32.ensures, ← c.refused_in.ensures)
+    rw (← c.clean_in.ensures, ← c.refused_in.ensures)
     (put_on c.put_end-after_end.ensures.0
     (put_on c.put_field-after_texts.ensures.0
     (put_on c.put_field-after_clean.ensures.0

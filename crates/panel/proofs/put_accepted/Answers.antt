@@ -8,8 +8,8 @@ use Rattle.panel.proofs.put_accepted.Goals as goal
 pub returns : goal.returns
 unfolding accepted_lines
 returns c = (
-  put_on (rw c.wide32.ensures at c.put_line-after_heard.ensures.0)
-      (put_on (rw c.wide32-2.ensures at c.put_line-after_clean.ensures.0)
-      (rw c.wide32-3.ensures at c.put_line.ensures.0)),
+  put_on c.put_line-after_heard.ensures.0
+      (put_on c.put_line-after_clean.ensures.0
+      c.put_line.ensures.0),
   omega (arith, c.put_line-after_heard.ensures.1, c.put_line-after_clean.ensures.1, c.put_line.ensures.1),
 )

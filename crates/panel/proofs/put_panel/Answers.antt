@@ -6,9 +6,4 @@ use Rattle.panel.proofs.put_panel.Goals as goal
 
 pub returns : goal.returns
 unfolding panel_of
-returns c =
-    put_on c.put_accepted-after_accepted.ensures.0
-    (put_on c.put_calls-after_calls.ensures.0
-    (put_on c.put_symbols-after_symbols.ensures.0
-    (put_on c.put_checks-after_checks.ensures.0
-    c.put_beside.ensures)))
+returns c = put_on c.put_accepted-after_accepted.ensures.0 (put_on c.put_refused-after_refused.ensures.0 c.put_beside.ensures)

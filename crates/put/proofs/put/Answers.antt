@@ -1,8 +1,7 @@
--- `put` writes its byte, by one store.
+-- `put` writes its item, by one store.
 -- Assumes nothing.
 use Rattle.put.proofs.Puts.{put_one}
-use borrow.Author.Rules.{rules}
 use Rattle.put.proofs.put.Goals as goal
 
 pub returns : goal.returns
-returns c = put_one _ _ _ (search rules)
+returns g c = put_one _ _ _ c.requires

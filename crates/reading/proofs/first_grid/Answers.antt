@@ -1,5 +1,4 @@
 -- The grid of block 0, which is as blocks are.
-use mathlib.Core.Path.{◌∙◌}
 use native.Mathlib.Omega.{arith}
 use Rattle.layout.specs.Layout.{first_block}
 use Rattle.reading.proofs.RowLaws.{first_fits}
@@ -10,6 +9,3 @@ unfolding first_block
 grid_of_block-requires c =
     let p = c.requires in
     (rw c.first_block.ensures (first_fits _ p.0 p.1), rw c.first_block.ensures (omega (arith, p.2)))
-
-pub returns : goal.returns
-returns c = c.grid_of_block.ensures ∙ rw c.first_block.ensures

@@ -1,17 +1,16 @@
 -- `show` shows what the check has judged.
 -- Assumes nothing.
 use mathlib.Core.Path.{sym, ◌∙◌}
-use Rattle.showing.proofs.AlongLaws.{told-broken, told-whole, told-refused, not-whole, not-broken}
+use Rattle.showing.proofs.AlongLaws.{told-broken, told-whole, told-refused}
 use Rattle.showing.proofs.show.Goals as goal
 
-pub returns-then-not-sent : goal.returns-then-not-sent
-returns-then-not-sent c =
-    told-broken (sym c.in-Taken.is ∙ c.check.ensures) (λ h. not-whole _ h c.if-not-sent.true)
+pub returns-in-Err-sent : goal.returns-in-Err-sent
+returns-in-Err-sent c =
+    rw c.in-Err-sent.is (told-broken _ _ (sym c.in-Ok.is ∙ c.check.ensures))
 
-pub returns-else-not-sent : goal.returns-else-not-sent
-returns-else-not-sent c =
-    told-whole (sym c.in-Taken.is ∙ c.check.ensures) (c.show_entries-shown.ensures (not-broken _ c.if-not-sent.false)) c.show_end.ensures
+pub returns-in_default : goal.returns-in_default
+returns-in_default c =
+    told-whole _ _ (sym c.in-Ok.is ∙ c.check.ensures) (rw c.in_default.is at c.show_entries-shown.ensures) c.show_end.ensures
 
-pub returns-in-Refused : goal.returns-in-Refused
-returns-in-Refused c =
-    told-refused (sym c.in-Refused.is ∙ c.check.ensures) c.wide.ensures c.show_refusal.ensures
+pub returns-in-Err : goal.returns-in-Err
+returns-in-Err c = told-refused _ (sym c.in-Err.is ∙ c.check.ensures) c.show_refusal.ensures

@@ -1,25 +1,14 @@
-use mathlib.Core.Path.{◌≡◌, sym, ◌∙◌}
+use mathlib.Core.Path.{sym}
 use native.Mathlib.Omega.{arith}
-use Prim.Native.Nat.{ℕ}
-use Rattle.showing.proofs.AlongLaws.{reached-none, reached-more, reached-over, not-whole}
-use borrow.Author.Rules.{rules}
+use Rattle.showing.proofs.AlongLaws.{reached-none, reached-more, reached-over, on_ok}
 use Rattle.showing.proofs.show_entries.Goals as goal
 
-pub loop-turn-init : goal.loop-turn-init
-loop-turn-init c = (reached-none _ _ c.start-place.ensures, search rules, search rules)
+pub loop-init : goal.loop-init
+loop-init c = (reached-none _ _ c.start-place.ensures, c.requires)
 
-pub returns-then-not-sent : goal.returns-then-not-sent
-returns-then-not-sent c = λ h. absurd (not-whole _ h c.if-not-sent.true)
+pub returns-then-over_at : goal.returns-then-over_at
+returns-then-over_at c =
+    on_ok _ (reached-over _ _ (reached-more c.loop.invariant.0 c.show_part-turn.ensures) (sym c.if-over_at.ensures))
 
-pub returns-then-part : goal.returns-then-part
-returns-then-part c =
-    let e = c.show_part-part.ensures in
-    λ h. reached-over _ _ (reached-more c.loop-turn.invariant.0 e.0) (sym e.1 ∙ c.if-part.true)
-
-pub loop-turn-preserved : goal.loop-turn-preserved
-loop-turn-preserved c =
-    let i = c.loop-turn.invariant in
-    (reached-more i.0 c.show_part-part.ensures.0, search rules, search rules)
-
-pub returns : goal.returns
-returns c = λ h. absurd (let z : ◌≡◌ {A = ℕ} 0 1 = cc in omega arith)
+pub loop-preserved : goal.loop-preserved
+loop-preserved c = (reached-more c.loop.invariant.0 c.show_part-turn.ensures, omega arith)

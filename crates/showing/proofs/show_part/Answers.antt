@@ -4,6 +4,4 @@ use Rattle.showing.proofs.AlongLaws.{passed}
 use Rattle.showing.proofs.show_part.Goals as goal
 
 pub returns : goal.returns
-returns c =
-    let filled = c.fill-part.ensures in
-    (passed filled.0 c.write.ensures, filled.1)
+returns c = passed c.fill-part.ensures c.write.ensures

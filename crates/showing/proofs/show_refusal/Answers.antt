@@ -4,4 +4,4 @@ use Rattle.showing.proofs.AlongLaws.{put-printing}
 use Rattle.showing.proofs.show_refusal.Goals as goal
 
 pub returns : goal.returns
-returns c = put-printing c.put_no-n.ensures c.write.ensures
+returns c = rw c.from.ensures at (put-printing c.put_no-n.ensures c.write.ensures)

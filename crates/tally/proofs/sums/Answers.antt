@@ -1,21 +1,30 @@
-use Rattle.tally.proofs.RoomLaws.{at_most}
-use mathlib.Core.Path.{refl}
-use native.Mathlib.Omega.{arith}
-use Rattle.bits.proofs.Fill.{filled_none, filled_more, filled-whole}
-use Rattle.tally.specs.Tally.{sum_at}
-use borrow.Author.Rules.{rules}
+-- A cell more, or the first sum that passes 32 bits.
+use Rattle.std.proofs.Common.{refl, arith, rules}
+use borrow.Author.Tests.{lt-leb, le-leb}
+use Rattle.bits.proofs.Fill.{filled_none, filled_more, filled-whole, filled-rest}
+use Rattle.tally.proofs.RoomLaws.{rooms-no, rooms-on, rooms-yes}
+use Rattle.tally.specs.Tally.{sum_at, most}
 use Rattle.tally.proofs.sums.Goals as goal
 
 pub loop-i-init : goal.loop-i-init
-loop-i-init c = (search rules, refl, filled_none _ _)
+loop-i-init c = record { filled = filled_none _ _; so_far = refl }
 
-pub overflow_add-c : goal.overflow_add-c
+pub returns-in_err-c : goal.returns-in_err-c
 unfolding sum_at
-overflow_add-c c = omega (arith, at_most _ 13 c.loop-i.i c.requires (omega arith))
+returns-in_err-c c =
+    let l = c.loop-i in
+    rw (c.from_residual.ensures, ← rooms-no _ l.i l.invariant.so_far (omega arith) (lt-leb _ most (omega (arith, c.in_err-c.ensures, filled-rest 0 l.invariant.filled))))
 
 pub loop-i-preserved : goal.loop-i-preserved
 unfolding sum_at
-loop-i-preserved c = (search rules, c.loop-i.invariant.1, filled_more c.loop-i.invariant.2 (omega arith) refl)
+loop-i-preserved c =
+    let l = c.loop-i in
+    record {
+      filled = filled_more l.invariant.filled (omega arith) (omega (arith, c.in_ok-c.ensures, filled-rest 0 l.invariant.filled));
+      so_far = rooms-on _ l.i l.invariant.so_far (omega arith) (le-leb _ most (omega (arith, c.in_ok-c.ensures, filled-rest 0 l.invariant.filled)));
+    }
 
 pub returns : goal.returns
-returns c = filled-whole 13 c.loop-i.invariant.2 (omega arith) c.loop-i.invariant.1
+returns c =
+    let l = c.loop-i in
+    rw (← rooms-yes _ l.i l.invariant.so_far (omega arith), filled-whole 13 l.invariant.filled (omega arith) (search rules))

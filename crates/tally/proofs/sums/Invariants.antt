@@ -1,13 +1,12 @@
--- A loop over the cells; each sum fits.
-use mathlib.Core.Path.{◌≡◌}
-use Prim.Native.Nat.{◌≤◌, ◌-◌}
-use lib.ListN.{length}
+-- The cells so far, and no sum among them passes 32 bits.
+use Rattle.std.proofs.Common.{◌≡◌, ◌-◌}
+use Rattle.bits.specs.Search.{first}
 use Rattle.bits.proofs.Fill.{Filled}
-use Rattle.tally.specs.Tally.{sum_at}
+use Rattle.tally.specs.Tally.{sum_at, passes}
 use Rattle.tally.proofs.sums.Given as goal
 
 abbrev pub invariant-loop-i : goal.invariant-loop-i
-invariant-loop-i l = (l.i ≤ 13) × (length l.initial.c ≡ 13) × Filled (sum_at l.a l.b) l.initial.c l.i l.c
-
-abbrev pub decreases-loop-i : goal.decreases-loop-i
-decreases-loop-i l = 13 - l.i
+invariant-loop-i l = record {
+  filled : Filled (sum_at l.fn.a l.fn.b) l.fn.a l.i l.c;
+  so_far : first (passes (sum_at l.fn.a l.fn.b)) 13 0 ≡ first (passes (sum_at l.fn.a l.fn.b)) (13 - l.i) l.i;
+}

@@ -1,11 +1,11 @@
--- `frame_end` keeps the place behind a frame.
+-- The place behind what was seen.
 -- Assumes nothing.
-use mathlib.Core.Path.{sym, ◌∙◌}
-use Rattle.day.proofs.SectionLaws.{seen-on, seen-stop}
+use Rattle.day.proofs.ReaderLaws.{handed}
+use Rattle.day.proofs.SeenLaws.{frame-end, frame-none}
 use Rattle.day.proofs.entries.frame_end.Goals as goal
 
-pub returns-in-Is : goal.returns-in-Is
-returns-in-Is c = seen-on _ _ _ _ _ _ _ (sym c.frame_at.ensures ∙ c.in-Is.is)
+pub returns-in_err-frame : goal.returns-in_err-frame
+returns-in_err-frame c = rw (handed _ c.from_residual.ensures.1) (frame-none _ _ c.in_err-frame.ensures)
 
-pub returns-in-Stop : goal.returns-in-Stop
-returns-in-Stop c = seen-stop _ _ _ (sym c.frame_at.ensures ∙ c.in-Stop.is)
+pub returns : goal.returns
+returns c = frame-end _ _ c.in_ok-frame.ensures

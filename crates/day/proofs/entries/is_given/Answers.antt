@@ -1,14 +1,18 @@
-use mathlib.Core.Path.{◌≡◌}
+-- `is_given` looks at one pair after the other.
+-- Assumes nothing.
+use mathlib.Core.Path.{refl, ◌∙◌}
 use native.Mathlib.Omega.{arith}
-use Rattle.day.proofs.EntryLaws.{given-none, given-next}
 use borrow.Author.Rules.{rules}
+use Rattle.std.proofs.lemmas.Iterator.{YieldsList-from_range}
+use Rattle.std.proofs.lemmas.Iterator.Search.{any_from_yields_List}
+use Rattle.day.specs.Day.{is_pair}
+use Rattle.day.specs.Stages.{pair_at}
+use Rattle.day.proofs.EntryLaws.{any-pair}
 use Rattle.day.proofs.entries.is_given.Goals as goal
 
-pub loop-k-init : goal.loop-k-init
-loop-k-init c = (search rules, given-none _ _ _)
-
-pub loop-k-preserved : goal.loop-k-preserved
-loop-k-preserved c = (search rules, given-next _ _ _ _ _ _ _ c.loop-k.invariant.1 c.same_pair.ensures c.or-found.ensures)
-
 pub returns : goal.returns
-returns c = let l = c.loop-k in let e : l.k ≡ c.args.j = omega arith in rw e at l.invariant.1
+returns c =
+    let a = c.args in
+    any_from_yields_List (λ k. is_pair a.sf a.low (pair_at a.from a.bytes.now k)) _ _ c.any.result c.any.ensures.ran
+    (YieldsList-from_range 0 _ a.j refl (omega arith)) (λ x b q k. search rules)
+    ∙ any-pair _ _ _ _

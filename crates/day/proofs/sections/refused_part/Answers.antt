@@ -1,12 +1,9 @@
--- `refused_part` reads the count, then so many refused frames.
+-- The refused frames, one behind the other.
 -- Assumes nothing.
-use mathlib.Core.Path.{sym, ◌∙◌}
+use borrow.Author.Rules.{rules}
 use Rattle.day.proofs.DayLaws.{refused_frame-lawful}
-use Rattle.day.proofs.CheckLaws.{part-stop, part-whole, counted-came, counted_stop}
+use Rattle.day.proofs.SectionLaws.{section-numbered, refused-same, same-many}
 use Rattle.day.proofs.sections.refused_part.Goals as goal
 
-pub returns-in_default : goal.returns-in_default
-returns-in_default c = let e = c.in_default.is in e ∙ part-stop _ (refused_frame-lawful _) _ _ _ _ _ _ (counted_stop _ _ _ (sym e ∙ c.count_at-part.ensures))
-
 pub returns : goal.returns
-returns c = part-whole _ (refused_frame-lawful _) _ _ _ _ _ _ _ _ (counted-came _ _ _ (sym c.in-Read.is ∙ c.count_at-part.ensures)) c.refused_frames_end.ensures c.read_to.ensures
+returns c = section-numbered _ (refused_frame-lawful c.args.settings) _ _ _ (λ n r s. same-many _ (refused-same _) _ _ (λ at r call. search rules) n _ r s) _ c.section.ensures

@@ -1,21 +1,14 @@
 -- `at_start` reads the first byte and the count of settings.
 -- Assumes nothing.
-use mathlib.Core.Path.{sym, ◌∙◌}
-use native.Mathlib.Omega.{arith}
-use Rattle.day.proofs.ReaderLaws.{fault-there}
+use Rattle.day.proofs.ReaderLaws.{handed}
 use Rattle.day.proofs.StepLaws.{no-mark, no-settings-count, marked-here}
 use Rattle.day.proofs.walking.at_start.Goals as goal
 
-pub returns-then-no_mark-ne0 : goal.returns-then-no_mark-ne0
-returns-then-no_mark-ne0 c = no-mark _ _ _ c.fault-no_mark.ensures c.if-no_mark-ne0.true
+pub returns-in_err-field : goal.returns-in_err-field
+returns-in_err-field c = rw (handed _ c.from_residual.ensures.1) (no-mark _ _ _ c.in_err-field.ensures.value)
 
-pub overflow_add-at : goal.overflow_add-at
-overflow_add-at c = omega (arith, (fault-there _ _ _ (sym c.fault-no_mark.ensures ∙ c.if-no_mark-ne0.false)).0)
+pub returns-in_err-count : goal.returns-in_err-count
+returns-in_err-count c = rw (handed _ c.from_residual-in_err-count.ensures.1) (no-settings-count _ _ c.in_ok-field.ensures.value _ c.in_err-count.ensures.value)
 
-pub returns-in-Read : goal.returns-in-Read
-returns-in-Read c =
-    marked-here _ _ (sym c.fault-no_mark.ensures ∙ c.if-no_mark-ne0.false) _ _ _ (sym c.in-Read.is ∙ c.count_at.ensures) c.in_settings.ensures
-
-pub returns-in-Stop : goal.returns-in-Stop
-returns-in-Stop c =
-    no-settings-count _ _ (sym c.fault-no_mark.ensures ∙ c.if-no_mark-ne0.false) _ _ (sym c.in-Stop.is ∙ c.count_at.ensures)
+pub returns : goal.returns
+returns c = marked-here _ _ c.in_ok-field.ensures.value _ _ c.in_ok-count.ensures.value c.in_settings.ensures

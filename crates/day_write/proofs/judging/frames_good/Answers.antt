@@ -1,19 +1,15 @@
-use mathlib.Core.Path.{◌≡◌}
-use Prim.Native.Nat.{◌/◌}
+-- `frames_good` judges row after row.
+-- Assumes nothing.
+use mathlib.Core.Path.{refl, ◌∙◌}
 use native.Mathlib.Omega.{arith}
-use lib.ListN.{length}
-use Rattle.day_write.proofs.JudgingLaws.{rows_none, rows_next}
 use borrow.Author.Rules.{rules}
+use Rattle.std.proofs.lemmas.Iterator.{YieldsList-from_range}
+use Rattle.std.proofs.lemmas.Iterator.Search.{all_from_yields_List}
+use Rattle.day_write.specs.Judging.{row_good}
+use Rattle.day_write.proofs.JudgingLaws.{all-rows}
 use Rattle.day_write.proofs.judging.frames_good.Goals as goal
-
-pub loop-i-init : goal.loop-i-init
-loop-i-init c = (search rules, rows_none _ _)
-
-pub loop-i-preserved : goal.loop-i-preserved
-loop-i-preserved c = (search rules, rows_next _ _ _ _ _ _ c.loop-i.invariant.1 c.frame_good.ensures c.and-fine.ensures)
 
 pub returns : goal.returns
 returns c =
-    let l = c.loop-i in
-    let e : l.i ≡ length c.args.frames.now / 5 = omega arith in
-    rw e at l.invariant.1
+    all_from_yields_List (row_good c.args.settings c.args.frames.now) _ _ c.all.result c.all.ensures.ran (YieldsList-from_range 0 _ _ refl (omega arith)) (λ x b q k. search rules)
+    ∙ all-rows _ _ _

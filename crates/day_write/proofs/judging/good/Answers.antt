@@ -1,6 +1,7 @@
 -- `good` makes its tests one by one; the first that fails decides, and the last one's answer is the answer.
 -- Assumes nothing.
 use mathlib.Core.Path.{◌∙◌}
+use native.Mathlib.Omega.{arith}
 use Rattle.day_write.proofs.JudgingLaws.{fails, holds, few-most, settings-many, frames-many, refused-many, lengths-off, settings-bad, frames-bad, all-good}
 use Rattle.day_write.proofs.judging.good.Goals as goal
 
@@ -29,7 +30,7 @@ returns-then-sum-payloads c =
     (holds c.few_rows.ensures c.if-not-few_rows.false-raw)
     (holds c.few_rows-2.ensures c.if-not-few_rows-2.false-raw)
     (holds c.few_rows-3.ensures c.if-not-few_rows-3.false-raw)
-    _ c.lengths-sum.ensures c.if-sum-payloads.true
+    _ c.lengths-sum.ensures (λ e. omega (arith, e, c.if-sum-payloads.true))
 
 pub returns-then-not-settings_good : goal.returns-then-not-settings_good
 returns-then-not-settings_good c =
@@ -37,7 +38,7 @@ returns-then-not-settings_good c =
     (holds c.few_rows.ensures c.if-not-few_rows.false-raw)
     (holds c.few_rows-2.ensures c.if-not-few_rows-2.false-raw)
     (holds c.few_rows-3.ensures c.if-not-few_rows-3.false-raw)
-    _ c.lengths-sum.ensures c.if-sum-payloads.false
+    _ c.lengths-sum.ensures (omega (arith, c.if-sum-payloads.false))
     (fails c.settings_good.ensures c.if-not-settings_good.true-raw)
 
 pub returns-then-not-frames_good : goal.returns-then-not-frames_good
@@ -46,9 +47,9 @@ returns-then-not-frames_good c =
     (holds c.few_rows.ensures c.if-not-few_rows.false-raw)
     (holds c.few_rows-2.ensures c.if-not-few_rows-2.false-raw)
     (holds c.few_rows-3.ensures c.if-not-few_rows-3.false-raw)
-    _ c.lengths-sum.ensures c.if-sum-payloads.false
+    _ c.lengths-sum.ensures (omega (arith, c.if-sum-payloads.false))
     (holds c.settings_good.ensures c.if-not-settings_good.false-raw)
-    (λ i. (c.shared_slice_known-2-1.given i).fits) (λ i. (c.shared_slice_known-3-1.given i).fits)
+    c.args.rows.cells c.args.rows.bytes
     (fails c.frames_good.ensures c.if-not-frames_good.true-raw)
 
 pub returns : goal.returns
@@ -57,7 +58,7 @@ returns c =
     (holds c.few_rows.ensures c.if-not-few_rows.false-raw)
     (holds c.few_rows-2.ensures c.if-not-few_rows-2.false-raw)
     (holds c.few_rows-3.ensures c.if-not-few_rows-3.false-raw)
-    _ c.lengths-sum.ensures c.if-sum-payloads.false
+    _ c.lengths-sum.ensures (omega (arith, c.if-sum-payloads.false))
     (holds c.settings_good.ensures c.if-not-settings_good.false-raw)
-    (λ i. (c.shared_slice_known-2-1.given i).fits) (λ i. (c.shared_slice_known-3-1.given i).fits)
+    c.args.rows.cells c.args.rows.bytes
     (holds c.frames_good.ensures c.if-not-frames_good.false-raw)

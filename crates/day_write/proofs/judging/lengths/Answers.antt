@@ -12,15 +12,15 @@ loop-i-init c = (search rules, search rules, lengths_none _)
 pub overflow_add-sum : goal.overflow_add-sum
 overflow_add-sum c =
     let l = c.loop-i in
-    let small = (c.shared_slice_known-in-loop-i-1.given (5 * l.i + 4)).fits in
-    let few : l.sum + c.wide16-sum.result ≤ 16777216 = omega (arith, c.wide16-sum.ensures, small, l.invariant.1, c.requires) in
+    let small = (c.type_inv.frames (5 * l.i + 4)).fits in
+    let few : l.sum + c.from-sum.result ≤ 16777216 = omega (arith, c.from-sum.ensures, small, l.invariant.1, c.requires) in
     omega (arith, few)
 
 pub loop-i-preserved : goal.loop-i-preserved
 loop-i-preserved c =
     let l = c.loop-i in
-    let small = (c.shared_slice_known-in-loop-i-1.given (5 * l.i + 4)).fits in
-    (search rules, omega (arith, c.wide16-sum.ensures, small, l.invariant.1), lengths-next _ _ _ _ l.invariant.2 c.wide16-sum.ensures)
+    let small = (c.type_inv.frames (5 * l.i + 4)).fits in
+    (search rules, omega (arith, c.from-sum.ensures, small, l.invariant.1), lengths-next _ _ _ _ l.invariant.2 c.from-sum.ensures)
 
 pub returns : goal.returns
 returns c =

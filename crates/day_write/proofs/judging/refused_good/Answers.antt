@@ -1,19 +1,19 @@
-use mathlib.Core.Path.{◌≡◌, ◌∙◌}
-use Prim.Native.Nat.{◌/◌}
+-- `refused_good` judges row after row, each alone.
+-- Assumes nothing.
+use mathlib.Core.Path.{refl, ◌∙◌}
 use native.Mathlib.Omega.{arith}
-use lib.ListN.{length}
-use Rattle.day_write.proofs.JudgingLaws.{each_none, each_next, refused-alone}
 use borrow.Author.Rules.{rules}
+use Rattle.bits.specs.Tab.{tab}
+use Rattle.std.proofs.lemmas.Iterator.{YieldsList-from_range}
+use Rattle.std.proofs.lemmas.Iterator.Search.{all_from_yields_List}
+use Rattle.day.specs.Day.{refused_frame}
+use Rattle.day_write.specs.Write.{refused_row}
+use Rattle.day_write.proofs.JudgingLaws.{refused-alone, all-each}
 use Rattle.day_write.proofs.judging.refused_good.Goals as goal
-
-pub loop-i-init : goal.loop-i-init
-loop-i-init c = (search rules, each_none _ _)
-
-pub loop-i-preserved : goal.loop-i-preserved
-loop-i-preserved c = (search rules, each_next _ _ _ _ _ _ c.loop-i.invariant.1 (c.refused_frame_good.ensures ∙ refused-alone _ _ _) c.and-fine.ensures)
 
 pub returns : goal.returns
 returns c =
-    let l = c.loop-i in
-    let e : l.i ≡ length c.args.refused.now / 3 = omega arith in
-    rw e at l.invariant.1
+    let row = refused_row c.args.refused.now in
+    let good = (refused_frame c.args.settings).good in
+    all_from_yields_List (λ i. good (tab i row) (row i)) _ _ c.all.result c.all.ensures.ran (YieldsList-from_range 0 _ _ refl (omega arith)) (λ x b q k. search (rules, refused-alone))
+    ∙ all-each good row _

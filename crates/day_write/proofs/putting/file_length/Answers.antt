@@ -8,7 +8,7 @@ use Rattle.day_write.proofs.putting.file_length.Goals.{Start}
 use Rattle.day_write.proofs.putting.file_length.Goals as goal
 
 -- what the rows' tests come to
-abbrev fits : (c : Start) → Fit c.args.settings.now c.args.frames.now c.args.payloads.now c.args.refused.now
+abbrev fits : (c : Start) → Fit c.args.rows.settings.now c.args.rows.frames.now c.args.rows.payloads.now c.args.rows.refused.now
 fits c = fit _ _ _ _ c.requires.0 c.requires.1
 
 pub overflow_add-result-3 : goal.overflow_add-result-3

@@ -2,8 +2,8 @@
 -- Assumes nothing.
 use Rattle.keep.proofs.hearing.sort.Goals as goal
 
-pub returns-in-Payload : goal.returns-in-Payload
-returns-in-Payload c = rw c.in-Payload.is at c.requires
+pub returns-in-Ok : goal.returns-in-Ok
+returns-in-Ok c = rw c.in-Ok.is at c.requires
 
 pub returns-then-is_number : goal.returns-then-is_number
-returns-then-is_number c = rw c.in-Refused.is at c.requires
+returns-then-is_number c = rw c.in-Err.is at c.requires

@@ -8,7 +8,7 @@ use Rattle.keep.proofs.telling.put_told.Goals as goal
 pub returns : goal.returns
 unfolding told_line line_of
 returns c =
-    rw (← c.wide.ensures)
+    rw (← c.from.ensures)
     (put_on c.put_words-after_line.ensures
     (put_on c.put_field-after_count.ensures.0
     (put_on c.put_words-after_no.ensures

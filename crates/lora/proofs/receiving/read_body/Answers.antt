@@ -1,35 +1,9 @@
 -- The checks of the frame's room and symbols, then its data.
-use mathlib.Core.Path.{refl, sym, ◌∙◌}
 use native.Mathlib.Omega.{arith}
-use lib.ListN.{length}
-use Rattle.lora.specs.Stages.{Admitted}
-use Rattle.lora.specs.declared.opening.Entry.TheVariants.{Passed}
-use Rattle.lora.proofs.receiving.read_body.Tie as tie
-use Rattle.lora.proofs.receiving.read_body.Reads as reads
-use Rattle.lora.proofs.receiving.read_body.Lts as lts
 use Rattle.lora.proofs.receiving.read_body.Goals as goal
-
--- the checks are passed
-passed : (c : lts.Past-After-enum_told tie.the-claims reads.Pre reads.Post) → let a = c.args in
-    Admitted Passed a.f a.symbols.now (length a.out.now) (length a.hurts.now) a.len
-passed c = rw c.in-Passed.is at c.admit-entry.ensures
 
 pub deliver-requires : goal.deliver-requires
 deliver-requires c =
-    let total = c.symbols_of-total.ensures in
-    let (fits, lists, there, below, is) = passed c.before.before.before in (
-      c.requires.0,
-      c.requires.1,
-      record { headed = c.requires.2; whole = total; there = omega (arith, total, there); below = rw total below },
-      fits,
-      omega (arith, total, lists),
-    )
-
-pub returns-in-Refused : goal.returns-in-Refused
-returns-in-Refused c = record { answer = sym (rw c.in-Refused.is at c.admit-entry.ensures); cells = refl; marks = refl }
-
-pub returns-in-Passed : goal.returns-in-Passed
-returns-in-Passed c =
-    let (fits, lists, there, below, is) = passed c.before.before.before.before.before.before.before.before in
-    let b = c.deliver.ensures in
-    record { answer = b.answer ∙ sym is; cells = b.cells; marks = b.marks }
+    let shape = c.args.shape in
+    let (fits, lists, there, below, is) = c.in_ok-admit.ensures in
+    (record { headed = c.requires; there = omega (arith, shape.whole, there); below = rw shape.whole below }, fits, omega (arith, shape.whole, lists))

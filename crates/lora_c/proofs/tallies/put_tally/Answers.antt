@@ -1,13 +1,11 @@
-use native.Mathlib.Omega.{arith}
-use Rattle.bits.proofs.Fill.{filled_none, filled_more, filled-end}
-use borrow.Author.Rules.{rules}
+-- The first three cells, and those of the refusals behind them.
+use Rattle.std.proofs.Common.{rules, ◌≡◌, length, ◌++◌, List, ◌∷◌, ℕ, ap}
+use Rattle.std.proofs.lemmas.List.{drop-drop}
+use Rattle.lora_c.proofs.TallyLaws.{cells_of_tally}
 use Rattle.lora_c.proofs.tallies.put_tally.Goals as goal
 
-pub loop-i-init : goal.loop-i-init
-loop-i-init c = (search rules, search rules, filled_none _ _)
-
-pub loop-i-preserved : goal.loop-i-preserved
-loop-i-preserved c = (search rules, search rules, filled_more c.loop-i.invariant.2 (omega arith) c.cell_of.ensures)
-
 pub returns : goal.returns
-returns c = filled-end c.loop-i.invariant.2 (omega arith)
+returns c =
+    let long : length c.args.t.refused ≡ 13 = search rules in
+    rw (cells_of_tally c.args.t long, c.copy_from_slice.ensures.after, c.copy_from_slice-2.ensures.after)
+    (ap (λ (l : List ℕ). c.args.t.heard ∷ c.args.t.clean ∷ c.args.t.repaired ∷ (c.args.t.refused ++ l)) (drop-drop 13 3 c.args.cells.now))

@@ -1,5 +1,0 @@
--- Code's answer, of a frame without a header.
-use Rattle.lora_c.proofs.agreed.lora_code_agreed.Goals as goal
-
-pub returns : goal.returns
-returns c = rw c.settings.ensures at c.code_into.ensures

@@ -1,5 +1,0 @@
--- Count's answer, of a frame without a header.
-use Rattle.lora_c.proofs.agreed.lora_count_agreed.Goals as goal
-
-pub returns : goal.returns
-returns c = rw c.settings.ensures at c.count_into.ensures

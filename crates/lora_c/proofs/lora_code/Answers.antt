@@ -1,5 +1,0 @@
--- Code's answer, of a frame with a header.
-use Rattle.lora_c.proofs.lora_code.Goals as goal
-
-pub returns : goal.returns
-returns c = rw c.explicit.ensures at c.code_into.ensures

@@ -1,5 +1,0 @@
--- Count's answer, of a frame with a header.
-use Rattle.lora_c.proofs.lora_count.Goals as goal
-
-pub returns : goal.returns
-returns c = rw c.explicit.ensures at c.count_into.ensures

@@ -1,0 +1,13 @@
+-- How the struct holds the state of a wish that is taken byte by byte.
+-- Assumes nothing.
+use Rattle.std.specs.Prelude.{◌≤◌, take}
+use Rattle.wish.specs.Scan.{State}
+use Rattle.wish.specs.declared.Scan.TheInside.{Inside}
+
+-- the state that the fields hold
+abbrev pub state_of : Inside → State
+state_of c = record { head = c.head; word = c.word; payload = take c.count c.bytes }
+
+-- the fields as scanning makes them
+pub record Sane (c : Inside) : Type 0 where
+  pub few : c.count ≤ 256
