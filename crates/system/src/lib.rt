@@ -16,7 +16,11 @@ use std::{io, thread};
 
 pub mod files;
 
-// The system's number for an argument that it can't take.
+// The system's numbers for a call that a signal interrupted, one that would have waited, and an argument that it can't take.
+const EINTR: i32 = 4;
+
+const EAGAIN: i32 = 11;
+
 const EINVAL: i32 = 22;
 
 // A write that was broken off: how many bytes it got rid of, and what went wrong.
@@ -51,10 +55,11 @@ pub fn number(e: &io::Error) -> i32
     e.raw_os_error().unwrap_or(otherwise)
 }
 
-// Whether a call that failed is to be tried again: it would have waited, or a signal interrupted it. Then this waits for a
-// thousandth of a second.
+// Whether a call that failed is to be tried again: by the system's number it would have waited, or a signal interrupted it. Then
+// this waits for a thousandth of a second.
 fn again(rt: &impl Clock, e: &io::Error) -> bool {
-    let again = e.kind() == ErrorKind::WouldBlock || e.kind() == ErrorKind::Interrupted;
+    let number = number(e);
+    let again = number == EAGAIN || number == EINTR;
     if again {
         thread::sleep(rt, Duration::from_millis(1));
     }
