@@ -91,7 +91,7 @@ fn hand_on(rt: &HostRuntime, name: &[u8], file: &[u8], back: &mut [u8]) -> Resul
 fn deliver(rt: &HostRuntime, rows: Rows, told: usize, name: &[u8], file: &[u8], back: &mut [u8]) {
     match hand_on(rt, name, file, back) {
         Ok(()) => close(rt, rows, told),
-        Err(failure) => system::say(rt, format_args!("not kept: {failure}\n")),
+        Err(failure) => system::say_line(rt, format_args!("not kept: {failure}\n")),
     }
 }
 
@@ -142,7 +142,7 @@ fn main(rt: HostRuntime) {
         Request::Other => {
             system::say(
                 &rt,
-                "day_keep takes a file's name, --help, or no argument\n",
+                b"day_keep takes a file's name, --help, or no argument\n",
             );
         }
     }

@@ -16,7 +16,7 @@ fn run(rt: &HostRuntime) {
     let mut file = [0u8; showing::FILE];
     match system::read_rest(rt, &mut rt.stdin(), &mut file) {
         Ok(n) => show(rt, &file[..n]),
-        Err(error) => system::say_failure(rt, "reading", &error),
+        Err(error) => system::say_failure(rt, b"reading", &error),
     }
 }
 

@@ -71,7 +71,7 @@ fn show(rt: &HostRuntime, file: &[u8], out: &mut [u8]) -> bool
     match showing::show(rt, file, out).sent {
         Ok(_) => true,
         Err(_) => {
-            system::say(rt, "writing failed\n");
+            system::say(rt, b"writing failed\n");
             false
         }
     }
@@ -85,7 +85,7 @@ fn show_next(rt: &HostRuntime, files: &mut File, file: &mut [u8], out: &mut [u8]
         Ok(Some(n)) => show(rt, &file[..n], out),
         Ok(None) => false,
         Err(Cut) => {
-            system::say(rt, "the last of the files is cut short\n");
+            system::say(rt, b"the last of the files is cut short\n");
             false
         }
     }
@@ -104,7 +104,7 @@ fn show_all(rt: &HostRuntime, files: &mut File, file: &mut [u8], out: &mut [u8])
 
 fn main(rt: HostRuntime) {
     let Ok(mut files) = File::open(&rt, "files") else {
-        system::say(&rt, "there is no 'files' here\n");
+        system::say(&rt, b"there is no 'files' here\n");
         return;
     };
     let mut file = [0u8; showing::FILE];

@@ -59,7 +59,7 @@ fn run(rt: &HostRuntime) {
     let mut scan = Scan::new();
     let mut buffer = [0u8; 65536];
     if let Err(error) = take_all(rt, &mut scan, &mut buffer) {
-        system::say_failure(rt, "reading", &error);
+        system::say_failure(rt, b"reading", &error);
         scan.refuse();
     }
     answer(rt, &mut scan);

@@ -170,27 +170,38 @@ pub fn write_first<W: Write>(rt: &impl Clock, writer: &mut W, buffer: &[u8], n: 
     write_all(rt, writer, &buffer[..n])
 }
 
-// Words for whoever started the program. They go out in one write, so that a line stays whole where programs share a standard
-// error; std's eprint! would give up where that write has to wait.
-pub fn say<D: Display + Drop>(rt: &HostRuntime, words: D) {
+// Words for whoever started the program, all of them; std's eprint! would give up where a write has to wait.
+pub fn say(rt: &HostRuntime, words: &[u8]) {
+    let _ = write_all(rt, &mut rt.stderr(), words);
+}
+
+// What stands in front, and words behind it, as far as a line of 128 bytes has room. They go out in one write, so that a line
+// stays whole where programs share a standard error.
+fn say_behind<D: Display + Drop>(rt: &HostRuntime, front: &[u8], words: D) {
     let mut line = [0u8; 128];
     let mut rest = &mut line[..];
+    let _ = rest.write(front);
     let _ = rest.write_fmt(words);
     let left = rest.len();
     let n = line.len().saturating_sub(left);
     let _ = write_first(rt, &mut rt.stderr(), &line, n);
 }
 
+// A line for whoever started the program, of at most 128 bytes: what it has more is left out. It goes out in one write.
+pub fn say_line<D: Display + Drop>(rt: &HostRuntime, line: D) {
+    say_behind(rt, &[], line);
+}
+
 // The line for what failed, where there is no more to tell of it than the system's number.
-pub fn say_failure(rt: &HostRuntime, what: &str, error: &io::Error) {
+pub fn say_failure(rt: &HostRuntime, what: &[u8], error: &io::Error) {
     let error = number(error);
-    say(rt, format_args!("{what} failed (error {error})\n"));
+    say_behind(rt, what, format_args!(" failed (error {error})\n"));
 }
 
 // The line for a write that failed, and for what came of the run before it.
 pub fn say_unwritten<D: Display + Drop>(rt: &HostRuntime, error: &io::Error, came: D) {
     let error = number(error);
-    say(
+    say_line(
         rt,
         format_args!("broken off: writing failed (error {error}), {came}\n"),
     );
@@ -200,7 +211,7 @@ pub fn say_unwritten<D: Display + Drop>(rt: &HostRuntime, error: &io::Error, cam
 pub fn say_unread<D: Display + Drop>(rt: &HostRuntime, error: &io::Error, lines: usize, came: D) {
     let error = number(error);
     let line = lines.saturating_add(1);
-    say(
+    say_line(
         rt,
         format_args!("broken off: reading failed in line {line} (error {error}), {came}\n"),
     );
@@ -244,7 +255,7 @@ pub fn serve<F: FnOnce()>(rt: &HostRuntime, name: &str, help: &str, work: F)
             let _ = write_all(rt, &mut rt.stdout(), help.as_bytes());
         }
         Request::Name(_) | Request::Other => {
-            say(rt, format_args!("{name} takes no argument but --help\n"));
+            say_line(rt, format_args!("{name} takes no argument but --help\n"));
         }
     }
 }
