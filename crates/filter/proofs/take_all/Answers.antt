@@ -13,4 +13,4 @@ pub loop-preserved : goal.loop-preserved
 loop-preserved c =
     let held = c.loop.invariant.0 in
     let came = (rw c.if-not-branch.false at c.in_ok-answer_got.ensures).came in
-    ((_, run-on _ held.0 _ held.1 came.2), omega arith)
+    ((_, run-on _ held.0 _ held.1 came.3), omega arith)

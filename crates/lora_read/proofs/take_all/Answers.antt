@@ -12,4 +12,4 @@ pub loop-preserved : goal.loop-preserved
 loop-preserved c =
     let held = c.loop.invariant in
     let more = rw c.if-not-branch.false at c.in_ok-take_got.ensures in
-    (_, run-on _ held.0 _ held.1 more.2)
+    (_, run-on _ held.0 _ held.1 more.3)
