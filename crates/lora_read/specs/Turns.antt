@@ -2,7 +2,7 @@
 -- Assumes nothing.
 use Rattle.std.specs.Prelude.{Bool, true, false, List, Result, Ok, Err, ◌≡◌, ◌<◌, ℕ, take}
 use Rattle.std.specs.declared.io.Error.{Error}
-use Rattle.text.specs.Scan.{State, run}
+use Rattle.text.specs.Scan.{State, start, run}
 
 -- after a read: the text goes on with exactly the bytes that it left; it has ended where the read came to the end, which is no
 -- byte, and is as it was; it has failed where the read did
@@ -11,7 +11,7 @@ Follows (Ok true) got s buffer later = (n : ℕ) × (0 < n) × (got ≡ Ok n) ×
 Follows (Ok false) got s buffer later = (got ≡ Ok 0) × (later ≡ s)
 Follows (Err error) got s buffer later = got ≡ Err error
 
--- a text that has ended went on with some bytes
-abbrev pub Finished : Result Unit Error → State → State → Type 0
-Finished (Ok done) s later = (bytes : List ℕ) × (later ≡ run s bytes)
-Finished (Err error) s later = Unit
+-- a text that has ended is some text from its beginning on
+abbrev pub Finished : Result State Error → Type 0
+Finished (Ok scan) = (bytes : List ℕ) × (scan ≡ run start bytes)
+Finished (Err error) = Unit

@@ -3,7 +3,7 @@
 
 ghost use Rattle.std.specs.Prelude.{◌≡◌, ◌≤◌, length};
 ghost use Rattle.system.specs.Calls.{Within, Printing};
-ghost use Rattle.text.specs.Scan.{line_at};
+ghost use Rattle.text.specs.Scan.{start, refuse, line_at};
 ghost use Rattle.lora_read.specs.Turns.{Follows, Finished};
 
 use std::io;
@@ -25,13 +25,14 @@ fn take_got(got: io::Result<usize>, scan: &mut Scan, buffer: &[u8]) -> io::Resul
 }
 
 // Takes the whole text. A proved loop has to end, so its turns end at a number that no run uses up.
-fn take_all(rt: &HostRuntime, scan: &mut Scan, buffer: &mut [u8]) -> io::Result<()>
-    ensures { Finished result scan.old scan.new }
+fn take_all(rt: &HostRuntime, buffer: &mut [u8]) -> io::Result<Scan>
+    ensures { Finished result }
 {
+    let mut scan = Scan::new();
     for _ in 0..u64::MAX {
         let got = system::read_some(rt, &mut rt.stdin(), buffer);
-        if !take_got(got, scan, buffer)? {
-            return Ok(());
+        if !take_got(got, &mut scan, buffer)? {
+            return Ok(scan);
         }
     }
     Err(system::out_of_tries())
@@ -54,15 +55,24 @@ fn answer(rt: &HostRuntime, scan: &mut Scan) {
     }
 }
 
-// A text whose reading failed can't be taken.
-fn run(rt: &HostRuntime) {
+// A text that can't be taken, as one is whose reading failed.
+fn failed() -> Scan
+    ensures { result ≡ refuse start }
+{
     let mut scan = Scan::new();
+    scan.refuse();
+    scan
+}
+
+fn run(rt: &HostRuntime) {
     let mut buffer = [0u8; 65536];
-    if let Err(error) = take_all(rt, &mut scan, &mut buffer) {
-        system::say_failure(rt, b"reading", &error);
-        scan.refuse();
+    match take_all(rt, &mut buffer) {
+        Ok(mut scan) => answer(rt, &mut scan),
+        Err(error) => {
+            system::say_failure(rt, b"reading", &error);
+            answer(rt, &mut failed());
+        }
     }
-    answer(rt, &mut scan);
 }
 
 const HELP: &str = "\

@@ -1,12 +1,11 @@
 use mathlib.Core.List.{[]}
-use mathlib.Core.Path.{refl}
 use Rattle.text.specs.Scan.{run}
 use Rattle.text.proofs.TextLaws.{run-on}
 use Rattle.lora_read.proofs.take_all.Goals as goal
 
 pub loop-init : goal.loop-init
 unfolding run
-loop-init c = ([], refl)
+loop-init c = ([], c.new-scan.ensures)
 
 pub loop-preserved : goal.loop-preserved
 loop-preserved c =

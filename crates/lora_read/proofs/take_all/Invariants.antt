@@ -3,8 +3,8 @@
 use mathlib.Core.List.{List}
 use mathlib.Core.Path.{◌≡◌}
 use Prim.Native.Nat.{ℕ}
-use Rattle.text.specs.Scan.{run}
+use Rattle.text.specs.Scan.{start, run}
 use Rattle.lora_read.proofs.take_all.Given as goal
 
 abbrev pub invariant-loop : goal.invariant-loop
-invariant-loop l = (bytes : List ℕ) × (l.scan ≡ run l.initial.scan bytes)
+invariant-loop l = (bytes : List ℕ) × (l.scan ≡ run start bytes)
