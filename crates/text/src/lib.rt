@@ -22,7 +22,7 @@ pub const NUMBERS: usize = 837;
 
 // How far a text was taken, with the numbers before the open one. A flag for a bad text and no enum: the definitions' `State` keeps
 // the digits and numbers of a text that became bad, and `step` speaks of them.
-#[derive(Drop)]
+#[derive(Clone, Copy)]
 pub struct Scan {
     refused: bool,
     digits: usize,
@@ -36,11 +36,15 @@ impl Model for Scan {
 
     ghost Value = { State };
 
-    ghost use Rattle.text.specs.Held.{state_of, Sane};
+    ghost use Rattle.text.specs.Held.{state_of, fields_of, Sane};
 
     ghost view = { state_of };
 
     ghost invariant = { Sane };
+
+    ghost inverse = { fields_of };
+
+    ghost inverse_ok = { λ c h. h.made };
 }
 
 impl Scan {
@@ -56,6 +60,25 @@ impl Scan {
             numbers: [0u16; NUMBERS],
             count: 0,
         }
+    }
+
+    // Nothing taken again. The places that held numbers are emptied, and no others are touched.
+    #[tactic(auto, unfolding(crate::specs::Scan::start))]
+    pub fn clear(&mut self)
+        ensures { self.new ≡ start }
+    {
+        self.refused = false;
+        self.end_number();
+        self.numbers[..self.count].fill(0);
+        self.count = 0;
+    }
+
+    // No number is open.
+    fn end_number(&mut self)
+        ensures { self.new ≡ record { refused = self.old.refused; digits = 0; value = 0; numbers = self.old.numbers } }
+    {
+        self.digits = 0;
+        self.value = 0;
     }
 
     // The text is bad, and stays so.
@@ -78,8 +101,7 @@ impl Scan {
         if self.count < NUMBERS {
             self.numbers[self.count] = self.value as u16;
             self.count += 1;
-            self.digits = 0;
-            self.value = 0;
+            self.end_number();
         } else {
             self.refused = true;
         }
