@@ -18,7 +18,7 @@ use std::marker::Model;
 pub const MARK: u8 = b'=';
 
 // How far a capture was taken: whether a mark stood in front, and the text of numbers.
-#[derive(Drop)]
+#[derive(Clone, Copy)]
 pub struct Scan {
     agreed: bool,
     text: text::Scan,
@@ -30,6 +30,8 @@ impl Model for Scan {
     ghost Value = { State };
 
     ghost view = { λ c. record { agreed = c.agreed; text = c.text } };
+
+    ghost inverse = { λ s. record { agreed = s.agreed; text = s.text } };
 }
 
 // The call of read that a capture makes.
@@ -51,6 +53,15 @@ impl Scan {
             agreed: false,
             text: text::Scan::new(),
         }
+    }
+
+    // Nothing taken again.
+    #[tactic(auto, unfolding(crate::specs::Scan::start))]
+    pub fn clear(&mut self)
+        ensures { self.new ≡ start }
+    {
+        self.agreed = false;
+        self.text.clear();
     }
 
     // Whether a capture without a header is scanned.
@@ -82,7 +93,7 @@ impl Scan {
     {
         if b == MARK && self.is_fresh() {
             self.agreed = true;
-            self.text = text::Scan::new();
+            self.text.clear();
         } else {
             self.text.take_byte(b);
         }
