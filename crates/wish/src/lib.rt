@@ -35,7 +35,7 @@ pub enum Word {
 
 // How far a wish was taken: the numbers in front of the payload, as a capture's are taken; how far the payload's word was; and
 // its first 256 bytes, which stand for any more, since no frame has as many.
-#[derive(Drop)]
+#[derive(Clone, Copy)]
 pub struct Scan {
     head: capture::Scan,
     word: Word,
@@ -48,11 +48,15 @@ impl Model for Scan {
 
     ghost Value = { State };
 
-    ghost use Rattle.wish.specs.Held.{state_of, Sane};
+    ghost use Rattle.wish.specs.Held.{state_of, fields_of, Sane};
 
     ghost view = { state_of };
 
     ghost invariant = { Sane };
+
+    ghost inverse = { fields_of };
+
+    ghost inverse_ok = { λ c h. h.made };
 }
 
 impl Scan {
@@ -67,6 +71,24 @@ impl Scan {
             bytes: [0u8; 256],
             count: 0,
         }
+    }
+
+    // Nothing taken again.
+    #[tactic(auto, unfolding(crate::specs::Scan::start))]
+    pub fn clear(&mut self)
+        ensures { self.new ≡ start }
+    {
+        self.head.clear();
+        self.word = Word::Before;
+        self.clear_payload();
+    }
+
+    // No byte of a payload is kept. The places that held some are emptied, and no others are touched.
+    fn clear_payload(&mut self)
+        ensures { self.new ≡ record { head = self.old.head; word = self.old.word; payload = [] } }
+    {
+        self.bytes[..self.count].fill(0);
+        self.count = 0;
     }
 
     // Keeps the payload's byte that this byte of the text is the end of, if any.
@@ -103,7 +125,7 @@ impl Scan {
         if self.head.closed().len() < usize::from(self.head.is_agreed()) + 4 {
             self.head.take_byte(b);
             self.word = Word::Before;
-            self.count = 0;
+            self.clear_payload();
         } else {
             self.take_payload(b);
         }

@@ -1,6 +1,9 @@
 -- `keep_byte` stores at most one byte, behind those kept.
 -- Assumes nothing.
+use Rattle.std.proofs.Common.{◌+◌, ◌*◌, ◌<◌, length, ap, arith}
+use Rattle.text.proofs.HeldLaws.{length-front-more, padded-more}
 use Rattle.wish.specs.Scan.{kept}
+use Rattle.wish.specs.declared.Scan.TheInside.{Inside}
 use Rattle.wish.proofs.HexLaws.{some-digit, no-digit}
 use Rattle.wish.proofs.ScanLaws.{added-high, added-no-low, added-other, kept-none, kept-full, kept_one}
 use borrow.Author.Rules.{rules}
@@ -35,3 +38,22 @@ returns-else-high-lt16 c =
       | else-high-lt16-via-then-high-lt16+else-self-lt256 w ↦ rw (← kept-full i.word c.args.b i.count i.bytes w.if-self-lt256.false c.self.invariant.few c.self.told)
       | else-high-lt16-via-else-high-lt16 w ↦ rw (← kept-none i.word c.args.b i.count i.bytes (rw c.in-Half.is (added-high c.in-Half.high c.args.b w.if-high-lt16.false)) c.self.invariant.few)
     ])
+
+-- a byte that is kept goes behind the others, and the places behind it are 0 as before
+pub invariant_of-self : goal.invariant_of-self
+invariant_of-self c =
+    let s = c.self.inside in
+    let h = c.self.invariant in
+    let v = c.in-Half.high * 16 + c.in-Some.low in
+    let few : s.count < length s.bytes = omega (arith, c.if-self-lt256.true, c.self.told) in
+    let long = ap (λ (a : Inside). a.count) h.made in
+    let made = ap (λ (a : Inside). a.bytes) h.made in
+    record {
+      few = omega (arith, c.if-self-lt256.true);
+      made = λ i. record {
+        head = s.head;
+        word = s.word;
+        bytes = padded-more 256 s.bytes s.count v few c.self.told long made i;
+        count = length-front-more 256 s.bytes s.count v few long i;
+      };
+    }
