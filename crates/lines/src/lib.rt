@@ -13,7 +13,7 @@ use panel::Counts;
 
 // What was taken of the piece that is open: of a capture to be read, of a wish for a frame, of a capture whose hurt symbols are
 // asked, or of a capture that is only counted.
-#[derive(Drop)]
+#[derive(Clone, Copy)]
 pub enum Piece {
     Frame(capture::Scan),
     Wish(wish::Scan),
@@ -22,7 +22,7 @@ pub enum Piece {
 }
 
 // How far a run has come: the open piece, whether it has a byte yet, and the counts of the pieces before it.
-#[derive(Drop)]
+#[derive(Clone, Copy)]
 pub struct Progress {
     pub piece: Piece,
     pub begun: bool,
@@ -48,12 +48,12 @@ impl Piece {
     fn renew(&mut self)
         ensures { self.new ≡ start_of (job_of self.old) }
     {
-        *self = match self {
-            Piece::Frame(_) => Piece::Frame(capture::Scan::new()),
-            Piece::Wish(_) => Piece::Wish(wish::Scan::new()),
-            Piece::Hurt(_) => Piece::Hurt(capture::Scan::new()),
-            Piece::Tally(_) => Piece::Tally(capture::Scan::new()),
-        };
+        match self {
+            Piece::Frame(scan) => scan.clear(),
+            Piece::Wish(scan) => scan.clear(),
+            Piece::Hurt(scan) => scan.clear(),
+            Piece::Tally(scan) => scan.clear(),
+        }
     }
 
     // Bytes of the open piece.
