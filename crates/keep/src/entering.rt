@@ -2,7 +2,7 @@
 ghost use Rattle.std.specs.Prelude.{◌≡◌, ◌+◌, ◌*◌, ◌≤◌, ◌<◌, length};
 ghost use Rattle.put.specs.Put.{Put};
 ghost use Rattle.keep.specs.Heard.{Fits, Sound};
-ghost use Rattle.keep.specs.Rows.{frame_numbers, refused_numbers, no_rows, Grown};
+ghost use Rattle.keep.specs.Rows.{Few, frame_numbers, refused_numbers, no_rows, Grown};
 
 use crate::hearing::Heard;
 use crate::{FRAMES, MOST, PAYLOADS, REFUSED, Rows, SETTINGS, hearing};
@@ -10,7 +10,6 @@ use capture::Scan;
 use lora::Accepted;
 use put::put_words;
 use refusal::Refusal;
-use std::marker::Model;
 
 // The index of a settings pair, and how many pairs there are now.
 #[derive(Clone, Copy)]
@@ -91,31 +90,20 @@ fn narrow(n: usize) -> u16
 
 // The day's entries so far, in lists of a fixed room: how many there are, the rows of numbers, and the payloads one behind the
 // other.
-#[derive(Drop)]
+#[derive(Clone, Copy)]
 pub struct Entries {
     rows: Rows,
     settings: [u8; SETTINGS],
     frames: [u16; FRAMES],
     payloads: [u8; PAYLOADS],
     refused: [u16; REFUSED],
-}
-
-impl Model for Entries {
-    ghost use Rattle.keep.specs.declared.Rows.{Rows};
-
-    ghost Value = { Rows };
-
-    ghost use Rattle.keep.specs.Rows.{Few};
-
-    ghost view = { λ e. e.rows };
-
-    ghost invariant = { λ e. Few e.rows };
+    pub ghost few: { Few rows },
 }
 
 impl Entries {
     // None yet.
     pub fn new() -> Entries
-        ensures { result ≡ no_rows }
+        ensures { result.rows ≡ no_rows }
     {
         Entries {
             rows: Rows {
@@ -133,42 +121,43 @@ impl Entries {
     }
 
     pub fn rows(&self) -> Rows
-        ensures { result ≡ self.now }
+        ensures rows { result ≡ self.now.rows }
+        ensures few { Few result }
     {
         self.rows
     }
 
     // The settings, a row of two numbers each.
     pub fn settings(&self) -> &[u8]
-        ensures { length result.now ≡ 2 * self.now.settings }
+        ensures { length result.now ≡ 2 * self.now.rows.settings }
     {
         &self.settings[..2 * self.rows.settings]
     }
 
     // The frames, a row of five numbers each.
     pub fn frames(&self) -> &[u16]
-        ensures { length result.now ≡ 5 * self.now.frames }
+        ensures { length result.now ≡ 5 * self.now.rows.frames }
     {
         &self.frames[..5 * self.rows.frames]
     }
 
     // The frames' payloads.
     pub fn payloads(&self) -> &[u8]
-        ensures { length result.now ≡ self.now.bytes }
+        ensures { length result.now ≡ self.now.rows.bytes }
     {
         &self.payloads[..self.rows.bytes]
     }
 
     // The refused frames, a row of three numbers each.
     pub fn refused(&self) -> &[u16]
-        ensures { length result.now ≡ 3 * self.now.refused }
+        ensures { length result.now ≡ 3 * self.now.rows.refused }
     {
         &self.refused[..3 * self.rows.refused]
     }
 
     fn enter_frame(&mut self, sf: u8, low: bool, accepted: Accepted)
         requires { Fits accepted }
-        ensures { Grown self.old self.new }
+        ensures { Grown self.old.rows self.new.rows }
     {
         if self.rows.frames >= MOST {
             return;
@@ -188,7 +177,7 @@ impl Entries {
 
     fn enter_refused(&mut self, sf: u8, low: bool, refusal: Refusal)
         requires { refusal.place ≤ 65535 }
-        ensures { Grown self.old self.new }
+        ensures { Grown self.old.rows self.new.rows }
     {
         if self.rows.refused >= MOST {
             return;
@@ -207,7 +196,7 @@ impl Entries {
     // Enters what was heard; of what is told, the file has nothing.
     fn enter(&mut self, heard: Heard)
         requires { Sound heard }
-        ensures { Grown self.old self.new }
+        ensures { Grown self.old.rows self.new.rows }
     {
         match heard {
             Heard::Frame { sf, low, accepted } => self.enter_frame(sf, low, accepted),
@@ -219,7 +208,7 @@ impl Entries {
     // Hears the capture that was taken and ends here, its payload behind those that are there, and enters it; answers what is to
     // be told of it.
     pub fn hear(&mut self, scan: &mut Scan) -> Option<Refusal>
-        ensures { Grown self.old self.new }
+        ensures { Grown self.old.rows self.new.rows }
     {
         let heard = hearing::hear_behind(scan, &mut self.payloads, self.rows.bytes);
         self.enter(heard);

@@ -38,7 +38,7 @@ pub struct Rows {
 
 // How far a run has come: the open text, whether it has a byte yet, how many texts ended before it, how many of these were
 // told, and the entries of the others.
-#[derive(Drop)]
+#[derive(Clone, Copy)]
 pub struct Progress {
     scan: capture::Scan,
     begun: bool,

@@ -9,7 +9,7 @@ use refusal::Refusal;
 impl Progress {
     // Nothing taken yet.
     pub fn new() -> Progress
-        ensures { (result.lines ≡ 0) × (result.told ≡ 0) × (result.entries ≡ no_rows) }
+        ensures { (result.lines ≡ 0) × (result.told ≡ 0) × (result.entries.rows ≡ no_rows) }
     {
         Progress {
             scan: capture::Scan::new(),
@@ -23,7 +23,7 @@ impl Progress {
     // The open text ends here: it is heard and entered, and the next one is open.
     fn close_text(&mut self) -> Option<Refusal> {
         let news = self.entries.hear(&mut self.scan);
-        self.scan = capture::Scan::new();
+        self.scan.clear();
         self.begun = false;
         self.lines = one_more(self.lines);
         if news.is_some() {
