@@ -130,6 +130,9 @@ fn tell<const N: usize, T: Cells<N>>(said: Result<T, Refusal>, answer: &mut [u64
 fn count_into(s: Settings, len: usize, answer: &mut [u64]) -> u8
     ensures { NumberExported (count_of s len) answer.old answer.new result }
 {
+    if answer.is_empty() {
+        return ANSWER_SHORT;
+    }
     tell(lora::count(s, len), answer)
 }
 
@@ -137,6 +140,9 @@ fn count_into(s: Settings, len: usize, answer: &mut [u64]) -> u8
 fn airtime_into(s: Settings, len: usize, khz: u16, preamble: u16, answer: &mut [u64]) -> u8
     ensures { NumberExported (airtime_of s len khz preamble) answer.old answer.new result }
 {
+    if answer.is_empty() {
+        return ANSWER_SHORT;
+    }
     tell(lora::airtime(s, len, khz, preamble), answer)
 }
 
@@ -211,6 +217,9 @@ pub fn lora_code(
 pub fn lora_head(sf: u8, symbols: &[u16], answer: &mut [u64]) -> u8
     ensures { HeadExported (head_of sf symbols.now) answer.old answer.new result }
 {
+    if answer.len() < 3 {
+        return ANSWER_SHORT;
+    }
     tell(lora::head(sf, symbols), answer)
 }
 
