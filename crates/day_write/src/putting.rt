@@ -52,6 +52,17 @@ fn put_three(out: &mut [u8], at: usize, cells: &[u16], j: usize) -> usize
     put_words(out, at, &bytes)
 }
 
+// Bytes, from a place on. A loop, and no `put_words`: its `copy_from_slice` would have the archive for C ask for `memmove` too.
+fn put_bytes(out: &mut [u8], at: usize, bytes: &[u8]) -> usize
+    requires { at + length bytes.now ≤ length out.old }
+    ensures { Put at bytes.now out.old out.new result }
+{
+    for (i, &b) in bytes.iter().enumerate() {
+        out[at + i] = b;
+    }
+    at + bytes.len()
+}
+
 // The settings' rows are their bytes.
 fn put_settings(out: &mut [u8], at: usize, settings: &[u8]) -> usize
     requires { (length settings.now / 2 ≤ 255) × (at + length (settings_part settings.now) ≤ length out.old) }
@@ -59,7 +70,7 @@ fn put_settings(out: &mut [u8], at: usize, settings: &[u8]) -> usize
 {
     let count = settings.len() / 2;
     let next = put_count(out, at, count);
-    put_words(out, next, &settings[..2 * count])
+    put_bytes(out, next, &settings[..2 * count])
 }
 
 // The length of frame i's payload.
@@ -87,7 +98,7 @@ fn put_frame(
     let after_flag = put_three(out, at, frames, row);
     let after_repairs = put_two(out, after_flag, frames[row + 3]);
     let after_length = put_cell(out, after_repairs, frames, row + 4);
-    put_words(out, after_length, &payloads[start..end])
+    put_bytes(out, after_length, &payloads[start..end])
 }
 
 // Row by row with its number, by which `frame_row` says what the row is and where its payload starts: a loop over chunks of five

@@ -28,9 +28,9 @@ unfolding low_first
 put_cell-after_length-requires c =
     (omega (arith, c.requires.0.there), (frame-cells _ _ _ c.requires.0).3, omega (arith, room c.before.before.before.before.before.before.before.before.before.before.before.before.before.before.before))
 
-pub put_words-requires : goal.put_words-requires
+pub put_bytes-requires : goal.put_bytes-requires
 unfolding low_first
-put_words-requires c = omega (arith, room c.before.before.before.before.before.before.before.before.before.before.before.before.before.before.before.before.before.before.before.before, c.payload_length.ensures)
+put_bytes-requires c = omega (arith, room c.before.before.before.before.before.before.before.before.before.before.before.before.before.before.before.before.before.before.before.before, c.payload_length.ensures)
 
 pub returns : goal.returns
 returns c =
@@ -38,4 +38,4 @@ returns c =
     (put_on c.put_three-after_flag.ensures
     (put_on c.put_two-after_repairs.ensures
     (put_on c.put_cell-after_length.ensures
-    (rw (c.payload_length.ensures, add-sub_cancel_left) at c.put_words.ensures))))
+    (rw (c.payload_length.ensures, add-sub_cancel_left) at c.put_bytes.ensures))))
