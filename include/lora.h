@@ -13,7 +13,7 @@
  * off, any other number for on.
  *
  * The functions keep no state and allocate nothing. Any number of threads may call them at once, each with lists of its
- * own that no other thread writes. A call needs 4.1 KiB of stack (measured, not proved: reference/run stack).
+ * own that no other thread writes. A call needs 5.1 KiB of stack (measured, not proved: reference/run stack).
  *
  * What accepted means: read with the sender's own SF and low-rate setting, which the frame does not carry, the symbols are
  * a frame by the rules. It is the frame that was sent if at most one symbol was changed in each block, or two at 4/8, those

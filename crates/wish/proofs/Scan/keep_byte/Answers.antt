@@ -45,11 +45,12 @@ invariant_of-self c =
     let s = c.self.inside in
     let h = c.self.invariant in
     let v = c.in-Half.high * 16 + c.in-Some.low in
-    let few : s.count < length s.bytes = omega (arith, c.if-self-lt256.true, c.self.told) in
+    let below : s.count < 256 = search rules in
+    let few : s.count < length s.bytes = omega (arith, below, c.self.told) in
     let long = ap (λ (a : Inside). a.count) h.made in
     let made = ap (λ (a : Inside). a.bytes) h.made in
     record {
-      few = omega (arith, c.if-self-lt256.true);
+      few = omega (arith, below);
       made = λ i. record {
         head = s.head;
         word = s.word;
