@@ -1,5 +1,5 @@
 -- The places that held bytes are 0 again, as those behind them are.
-use Rattle.std.proofs.Common.{ℕ, List, ◌≡◌, ◌++◌, ◌≤◌, length, drop, replicate, ap, arith}
+use Rattle.std.proofs.Common.{◌≡◌, ◌++◌, drop, replicate, ap, arith}
 use Rattle.text.proofs.HeldLaws.{padded-none}
 use Rattle.wish.specs.declared.Scan.TheInside.{Inside}
 use Rattle.wish.proofs.Scan.clear_payload.Goals as goal
