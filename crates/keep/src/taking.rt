@@ -1,6 +1,6 @@
 // Captures taken in chunks.
 ghost use Rattle.std.specs.Prelude.{◌≡◌, ◌≤◌, ◌<◌, length};
-ghost use Rattle.keep.specs.Rows.{no_rows};
+ghost use Rattle.keep.specs.Rows.{no_rows, Grown};
 
 use crate::{Entries, Progress, Step};
 use panel::one_more;
@@ -21,7 +21,9 @@ impl Progress {
     }
 
     // The open text ends here: it is heard and entered, and the next one is open.
-    fn close_text(&mut self) -> Option<Refusal> {
+    fn close_text(&mut self) -> Option<Refusal>
+        ensures { Grown self.old.entries.rows self.new.entries.rows }
+    {
         let news = self.entries.hear(&mut self.scan);
         self.scan.clear();
         self.begun = false;
@@ -32,14 +34,22 @@ impl Progress {
         news
     }
 
+    // Takes bytes into the open text.
+    fn take_part(&mut self, bytes: &[u8])
+        ensures { self.new.entries ≡ self.old.entries }
+    {
+        self.scan.feed(bytes);
+        self.begun = true;
+    }
+
     // Takes the chunk from at on up to a line end, with the text that ends there, or all that is left.
     pub fn take(&mut self, chunk: &[u8], at: usize) -> Step
         requires { at < length chunk.now }
-        ensures { (at < result.at) × (result.at ≤ length chunk.now) }
+        ensures place { (at < result.at) × (result.at ≤ length chunk.now) }
+        ensures entries { Grown self.old.entries.rows self.new.entries.rows }
     {
         let end = lines::line_end(chunk, at);
-        self.scan.feed(&chunk[at..end]);
-        self.begun = true;
+        self.take_part(&chunk[at..end]);
         if end < chunk.len() {
             let news = self.close_text();
             return Step { at: end + 1, news };
@@ -51,7 +61,9 @@ impl Progress {
     }
 
     // The end of the captures: a last text that is not empty is entered too.
-    pub fn finish(&mut self) -> Option<Refusal> {
+    pub fn finish(&mut self) -> Option<Refusal>
+        ensures { Grown self.old.entries.rows self.new.entries.rows }
+    {
         if self.begun { self.close_text() } else { None }
     }
 }
