@@ -1,14 +1,14 @@
 -- A capture taken byte by byte is the capture that it is, in pieces of any size.
 -- Assumes nothing.
 use mathlib.Core.Path.{◌≡◌, refl, ap, ◌∙◌}
-use mathlib.Core.Bool.{Bool, true, false, cond, false≢true}
+use mathlib.Core.Bool.{Bool, true, false, cond}
 use mathlib.Core.List.{List, [], ◌∷◌}
 use Prim.Native.Nat.{ℕ, ◌<◌}
 use native.Mathlib.Omega.{arith}
-use borrow.Author.Tests.{eqb-true, le-leb}
+use borrow.Author.Tests.{le-leb}
 use lib.Dec.{leb}
 use lib.ListN.{length, get_or, drop, length-drop}
-use Rattle.bits.proofs.Truth.{refuted, check-same}
+use Rattle.bits.proofs.Truth.{check-same}
 use Rattle.text.specs.Scan as text
 use Rattle.text.specs.Text.{is_separator, words_from, frame_of, text_of}
 use Rattle.text.proofs.TextLaws as text-laws
@@ -16,7 +16,7 @@ use Rattle.text.proofs.TextLaws.{meant, scanned-as, crowd, step-shuts}
 use Rattle.capture.specs.Capture.{bad, explicit, agreed_of, agreed_in, is_mark, capture_of, answer_of, outcome_is}
 use Rattle.text.specs.Scan.{empty}
 use Rattle.capture.specs.Scan.{start, fresh, step, run, ended, said, taken, line_at, outcome_at}
-use Rattle.capture.proofs.ScanLaws.{step-mark, step-plain, behind-mark, behind-word, run_on}
+use Rattle.capture.proofs.ScanLaws.{no-mark, step-mark, step-plain, behind-mark, behind-word, run_on}
 
 -- more than 837 numbers are no frame without a header
 crowded : (numbers : List ℕ) → 837 < length numbers → agreed_of numbers ≡ bad
@@ -37,9 +37,6 @@ plain b bs e f =
     (ap explicit (text-laws.scanned (b ∷ bs)))
 
 -- the first byte: a separator changes nothing, a mark opens a text of its own
-no-mark : (b : ℕ) → is_separator b ≡ true → is_mark b ≡ false
-no-mark b e = refuted (is_mark b) (λ f. let g : b ≡ 61 = eqb-true b 61 f in false≢true (rw g at e))
-
 pub front-skips : (b : ℕ) → is_separator b ≡ true → step start b ≡ start
 unfolding start text.start text.shut
 front-skips b e = step-plain start b (no-mark b e) ∙ rw (step-shuts text.start b refl e)

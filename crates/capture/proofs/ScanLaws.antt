@@ -1,16 +1,16 @@
 -- The front of a capture, and the text behind it.
 -- Assumes nothing.
 use mathlib.Core.Path.{◌≡◌, refl, sym, ◌∙◌}
-use mathlib.Core.Bool.{Bool, true, false, not, ◌&&◌, cond, and-false, true≢false}
+use mathlib.Core.Bool.{Bool, true, false, not, ◌&&◌, cond, and-false, true≢false, false≢true}
 use mathlib.Core.List.{List, [], ◌∷◌, ◌++◌, foldl-append}
 use mathlib.Core.Logic.{◌⊎◌, inl, inr, ⊎_elim}
 use Prim.Native.Nat.{ℕ, ◌+◌, ◌-◌, ◌*◌}
 use native.Mathlib.Omega.{arith}
-use borrow.Author.Tests.{ne_eqb}
+use borrow.Author.Tests.{ne_eqb, eqb-true}
 use lib.Dec.{leb, ltb, eqb}
 use lib.ListN.{length, take, drop, length-drop, take-append-drop}
-use lib.Seq.{length-take-le, take_all}
 use Rattle.bits.proofs.Lists.{length_more}
+use Rattle.bits.proofs.Truth.{refuted, both_true}
 use Rattle.text.specs.Scan as text
 use Rattle.text.specs.Text.{is_separator, is_digit}
 use Rattle.text.proofs.TextLaws.{step-refused, step-shuts}
@@ -100,6 +100,30 @@ behind-stays s b f = go s.agreed (empty s.text) refl f
     go true e g h = refl
     go false true g h = absurd (true≢false h)
     go false false g h = step-fills s.text b g
+
+-- separators in front leave a capture as it is, and the byte behind them ends its front
+pub no-mark : (b : ℕ) → is_separator b ≡ true → is_mark b ≡ false
+no-mark b e = refuted (is_mark b) (λ f. let g : b ≡ 61 = eqb-true b 61 f in false≢true (rw g at e))
+
+pub front-stays : (s : State) (b : ℕ) → fresh s ≡ true → is_separator b ≡ true → step s b ≡ s
+unfolding fresh empty text.shut
+front-stays s b f e = step-plain s b (no-mark b e) ∙ rw (step-shuts s.text b going e, none) refl
+  where
+    blank : not s.text.refused && (eqb s.text.digits 0 && eqb (length s.text.numbers) 0) ≡ true
+    blank = (both_true (not s.agreed) _ f).1
+
+    going : s.text.refused ≡ false
+    going = refuted s.text.refused (λ r. false≢true (rw r at blank))
+
+    none : eqb s.text.digits 0 ≡ true
+    none = (both_true (eqb s.text.digits 0) _ (both_true (not s.text.refused) _ blank).1).0
+
+pub front-ends : (s : State) (b : ℕ) → is_separator b ≡ false → fresh (step s b) ≡ false
+front-ends s b e = go (is_mark b && fresh s) refl
+  where
+    go : (t : Bool) → is_mark b && fresh s ≡ t → fresh (step s b) ≡ false
+    go true f = rw (step-mark s b f) (behind-mark text.start)
+    go false f = rw (step_other s b f) (behind-word s b e)
 
 -- so that the rest of a capture is its text's
 pub run_on : (bs : List ℕ) (s : State) → fresh s ≡ false → run s bs ≡ record { agreed = s.agreed; text = text.run s.text bs }

@@ -3,7 +3,7 @@
 
 ghost use Rattle.std.specs.Prelude.{◌≡◌, ◌≤◌, length};
 ghost use Rattle.line.specs.Outcome.{Answered};
-ghost use Rattle.text.specs.Text.{frame_of};
+ghost use Rattle.text.specs.Text.{is_separator, frame_of};
 ghost use Rattle.capture.specs.Call.{called, as_called, reads, Heard};
 ghost use Rattle.capture.specs.Capture.{agreed_of};
 ghost use Rattle.capture.specs.Scan.{start, fresh, step, run, ended, said, Fronted, line_at, outcome_at};
@@ -41,6 +41,13 @@ pub struct Call<'a> {
     pub low: bool,
     pub expected: Expected,
     pub symbols: &'a [u16],
+}
+
+// Whether a byte stands between numbers: a space or a line end.
+fn is_separator(b: u8) -> bool
+    ensures { result ≡ is_separator b }
+{
+    matches!(b, b' ' | b'\n')
 }
 
 impl Scan {
@@ -99,15 +106,19 @@ impl Scan {
         }
     }
 
-    // Takes a piece byte by byte as long as a mark might come, and answers where that ends.
+    // Takes the front of a piece, in which a mark might come: separators, which change nothing, and the byte behind them. Answers where
+    // that ends.
     fn take_front(&mut self, piece: &[u8]) -> usize
         ensures { Fronted self.old piece.now self.new result }
     {
+        if !self.is_fresh() {
+            return 0;
+        }
         for (i, &b) in piece.iter().enumerate() {
-            if !self.is_fresh() {
-                return i;
+            if !is_separator(b) {
+                self.take_byte(b);
+                return i + 1;
             }
-            self.take_byte(b);
         }
         piece.len()
     }

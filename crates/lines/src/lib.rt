@@ -93,7 +93,8 @@ impl Piece {
     }
 }
 
-// Where the first line end stands, if one does.
+// Where the first line end stands, if one does. By itself, since in its caller the loop is longer and its time goes by where it lies.
+#[inline(never)]
 fn first_end(bytes: &[u8]) -> Option<usize>
     ensures { result ≡ position (λ b. b == 10) bytes.now }
 {
