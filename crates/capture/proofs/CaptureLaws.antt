@@ -1,6 +1,6 @@
 -- A capture taken byte by byte is the capture that it is, in pieces of any size.
 -- Assumes nothing.
-use mathlib.Core.Path.{◌≡◌, refl, ap, ◌∙◌}
+use mathlib.Core.Path.{◌≡◌, refl, ap}
 use mathlib.Core.Bool.{Bool, true, false, cond}
 use mathlib.Core.List.{List, [], ◌∷◌}
 use Prim.Native.Nat.{ℕ, ◌<◌}
@@ -16,7 +16,7 @@ use Rattle.text.proofs.TextLaws.{meant, scanned-as, crowd, step-shuts}
 use Rattle.capture.specs.Capture.{bad, explicit, agreed_of, agreed_in, is_mark, capture_of, answer_of, outcome_is}
 use Rattle.text.specs.Scan.{empty}
 use Rattle.capture.specs.Scan.{start, fresh, step, run, ended, said, taken, line_at, outcome_at}
-use Rattle.capture.proofs.ScanLaws.{no-mark, step-mark, step-plain, behind-mark, behind-word, run_on}
+use Rattle.capture.proofs.ScanLaws.{front-stays, step-mark, step-plain, behind-mark, behind-word, run_on}
 
 -- more than 837 numbers are no frame without a header
 crowded : (numbers : List ℕ) → 837 < length numbers → agreed_of numbers ≡ bad
@@ -38,8 +38,8 @@ plain b bs e f =
 
 -- the first byte: a separator changes nothing, a mark opens a text of its own
 pub front-skips : (b : ℕ) → is_separator b ≡ true → step start b ≡ start
-unfolding start text.start text.shut
-front-skips b e = step-plain start b (no-mark b e) ∙ rw (step-shuts text.start b refl e)
+unfolding start fresh empty text.start
+front-skips b e = front-stays start b refl e
 
 pub front-mark : (b : ℕ) → is_mark b ≡ true → step start b ≡ record { agreed = true; text = text.start }
 unfolding start fresh empty text.start

@@ -102,7 +102,7 @@ behind-stays s b f = go s.agreed (empty s.text) refl f
     go false false g h = step-fills s.text b g
 
 -- separators in front leave a capture as it is, and the byte behind them ends its front
-pub no-mark : (b : ℕ) → is_separator b ≡ true → is_mark b ≡ false
+no-mark : (b : ℕ) → is_separator b ≡ true → is_mark b ≡ false
 no-mark b e = refuted (is_mark b) (λ f. let g : b ≡ 61 = eqb-true b 61 f in false≢true (rw g at e))
 
 pub front-stays : (s : State) (b : ℕ) → fresh s ≡ true → is_separator b ≡ true → step s b ≡ s
