@@ -15,6 +15,8 @@ use std::time::Duration;
 use std::{io, thread};
 
 pub mod files;
+#[cfg(test)]
+mod tests;
 
 // The system's numbers for a call that a signal interrupted, one that would have waited, and an argument that it can't take.
 const EINTR: i32 = 4;
@@ -55,15 +57,30 @@ pub fn number(e: &io::Error) -> i32
     e.raw_os_error().unwrap_or(otherwise)
 }
 
-// Whether a call that failed is to be tried again: by the system's number it would have waited, or a signal interrupted it. Then
-// this waits for a thousandth of a second.
-fn again(rt: &impl Clock, e: &io::Error) -> bool {
-    let number = number(e);
-    let again = number == EAGAIN || number == EINTR;
+// Waits for a thousandth of a second where a call is to be tried again, and hands on whether it is.
+fn paused(rt: &impl Clock, again: bool) -> bool {
     if again {
         thread::sleep(rt, Duration::from_millis(1));
     }
     again
+}
+
+// Whether a call that failed is to be tried again, behind a pause: by the system's number it would have waited, or a signal
+// interrupted it.
+fn again(rt: &impl Clock, e: &io::Error) -> bool {
+    let number = number(e);
+    paused(rt, number == EAGAIN || number == EINTR)
+}
+
+// The same by the error's kind, which a reader of a caller's own may give without a number. Not inlined, since the system's readers
+// always give one.
+#[cold]
+#[inline(never)]
+fn again_by_kind(rt: &impl Clock, e: &io::Error) -> bool {
+    paused(
+        rt,
+        matches!(e.kind(), ErrorKind::WouldBlock | ErrorKind::Interrupted),
+    )
 }
 
 // A proved loop has to end, so its tries end at a number that no run uses up. This is what it would say then.
@@ -81,7 +98,7 @@ pub fn read_some<R: Read>(rt: &impl Clock, reader: &mut R, buffer: &mut [u8]) ->
                 return Ok(n);
             }
             Err(e) => {
-                if !again(rt, &e) {
+                if !again(rt, &e) && !again_by_kind(rt, &e) {
                     return Err(e);
                 }
             }
