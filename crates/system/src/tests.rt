@@ -63,7 +63,7 @@ fn all(rt: &HostRuntime, error: io::Error) -> Option<usize> {
     write_all(rt, &mut FailsOnce::new(error), b"abc").ok()
 }
 
-// Of the system's numbers, which Linux has up to 133, behind 4 (interrupted) and 11 (it would have waited).
+// Of the system's numbers, which Linux has up to 133, behind 4 (interrupted) and 11 (it would have waited) alone.
 #[test]
 fn the_system_s_failures(rt: HostRuntime) {
     for number in 1..134 {
